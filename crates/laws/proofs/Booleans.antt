@@ -1,0 +1,36 @@
+-- What a conjunction that holds tells of its parts.
+-- Assumes nothing.
+use mathlib.Core.Path.{_≡_, refl}
+use mathlib.Core.Bool.{Bool, true, false, _&&_}
+use lib.Dec.{T}
+
+-- a test that holds, as an equation and back
+pub holds : (b : Bool) → T b → b ≡ true
+holds true t = refl
+holds false t = absurd t
+
+pub held : (b : Bool) → b ≡ true → T b
+held b e = rw e tt
+
+pub left-of : (a b : Bool) → (a && b) ≡ true → a ≡ true
+left-of true b e = refl
+left-of false b e = e
+
+pub right-of : (a b : Bool) → (a && b) ≡ true → b ≡ true
+right-of true b e = e
+right-of false b e = absurd (held false e)
+
+pub both-of : (a b : Bool) → a ≡ true → b ≡ true → (a && b) ≡ true
+both-of a b p q = rw (p, q)
+
+pub T-left : (a b : Bool) → T (a && b) → T a
+T-left true b t = tt
+T-left false b t = absurd t
+
+pub T-right : (a b : Bool) → T (a && b) → T b
+T-right true b t = t
+T-right false b t = absurd t
+
+pub T-both : (a b : Bool) → T a → T b → T (a && b)
+T-both true b t u = u
+T-both false b t u = absurd t

@@ -1,0 +1,7 @@
+pub mod Tests
+pub mod Booleans
+pub mod Places
+pub mod Records
+pub mod Same
+pub mod Below
+pub mod Agree

@@ -1,0 +1,21 @@
+-- A list cut into n records of k elements: what a loop at the j-th of them has before it.
+-- Assumes nothing.
+use Prim.Native.Nat.{ℕ, suc, _<_, _≤_, _+_, _-_, _*_}
+use mathlib.Core.Path.{_≡_, refl, sym, _∙_, ap}
+use mathlib.Core.List.{List, [], _∷_}
+use lib.ListN.{take, drop}
+use lib.Seq.{drop-drop}
+use native.Mathlib.Nat.{add-sub-cancel-left, add-mul, one-mul}
+use native.Mathlib.Omega.{arith}
+use Rattle.laws.specs.Lists.{records}
+
+-- the records from the j-th on: the j-th, and those from the next on
+pub records-step : (k n j : ℕ) (l : List ℕ) → j < n → records k (n - j) (drop (j * k) l) ≡ take (j * k + k - j * k) (drop (j * k) l) ∷ records k (n - (j + 1)) (drop ((j + 1) * k) l)
+records-step k n j l h =
+    let q : n - j ≡ suc (n - (j + 1)) = omega arith in
+    let r : (j + 1) * k ≡ j * k + k = add-mul j 1 k ∙ ap (λ (m : ℕ). j * k + m) (one-mul k) in
+    rw (q, r, add-sub-cancel-left (j * k) k) (ap (λ (m : List ℕ). take k (drop (j * k) l) ∷ records k (n - (j + 1)) m) (drop-drop k (j * k) l))
+
+-- past the last none
+pub records-over : (k n j : ℕ) (l : List ℕ) → n ≤ j → records k (n - j) l ≡ []
+records-over k n j l h = let q : n - j ≡ 0 = omega arith in rw q
