@@ -61,7 +61,9 @@ leb-is r x y p = rw p
 
 -- `search follow` closes a `returns` whose contract is `r ≡ f ..`, with f a nest of `cond` over `ltb`, `leb` and `eqb`
 pub ruleset follow = (needs, pick-true, pick-false, lt-ltb, le-ltb, le-leb, lt-leb, eq-eqb, ne-eqb)
+
 -- the same where tests are calls
 pub ruleset decide = (follow, call-true, call-false, not-as, is-eq, is-ne)
+
 -- a conjunction of tests, calls among them
 pub ruleset deciding = (and-step, no-here, call-true, call-false, call-not, call-yes, is-eq, is-ne, is-le, is-gt, leb-is, eq-eqb, ne-eqb, le-leb, lt-leb)
