@@ -1,0 +1,5 @@
+pub mod WalkLaws
+pub mod ItemLaws
+pub mod RuleLaws
+pub mod WireLaws
+pub mod PlaceLaws
