@@ -3,3 +3,5 @@ pub mod ItemLaws
 pub mod RuleLaws
 pub mod WireLaws
 pub mod PlaceLaws
+pub mod Agree
+pub mod Examples
