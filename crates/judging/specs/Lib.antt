@@ -1,4 +1,3 @@
-pub mod Contents
 pub mod Data
 pub mod Values
 pub mod Pdu
