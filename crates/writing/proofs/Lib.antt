@@ -1,0 +1,5 @@
+pub mod PutLaws
+pub mod ContextLaws
+pub mod FormLaws
+pub mod FrameLaws
+pub mod AssociateLaws
