@@ -3,3 +3,4 @@ pub mod ContextLaws
 pub mod FormLaws
 pub mod FrameLaws
 pub mod AssociateLaws
+pub mod TenLaws

@@ -143,21 +143,21 @@ pub fn write_abort(source: u8, reason: u8, out: &mut [u8]) -> Sent
 }
 
 // The greatest PDU-length that may be sent to a peer with this maximum.
-fn most_of(peer_max: u32) -> usize
-    ensures { λ r. ⌜ (r ≡ mostOf peer_max) × (r ≤ 16384) ⌝ }
+fn most_of(peer: u32) -> usize
+    ensures { λ r. ⌜ (r ≡ mostOf peer) × (r ≤ 16384) ⌝ }
 {
-    if peer_max == 0 {
+    if peer == 0 {
         return 16384;
     }
-    if peer_max <= 16384 {
-        return peer_max as usize;
+    if peer <= 16384 {
+        return peer as usize;
     }
     16384
 }
 
 // Writes a P-DATA-TF of PDV items in wire form to the start of the output; a peer maximum of 0 is no limit.
-pub fn write_data(items: &[u8], peer_max: u32, out: &mut [u8]) -> Sent
-    ensures { λ r. ⌜ Wrote (dataForm peer_max (itemsOf (now (items .entry)))) (now (out .entry)) r (now (out .exit)) ⌝ }
+pub fn write_data(items: &[u8], peer: u32, out: &mut [u8]) -> Sent
+    ensures { λ r. ⌜ Wrote (dataForm peer (itemsOf (now (items .entry)))) (now (out .entry)) r (now (out .exit)) ⌝ }
 {
     if !judging::pdvs_ok(3, items) {
         return Sent {
@@ -166,7 +166,7 @@ pub fn write_data(items: &[u8], peer_max: u32, out: &mut [u8]) -> Sent
         };
     }
     let n = items.len();
-    if most_of(peer_max) < n {
+    if most_of(peer) < n {
         return Sent {
             refusal: 5,
             count: 0,
