@@ -1,0 +1,4 @@
+pub mod PieceLaws
+pub mod ContextLaws
+pub mod FrameLaws
+pub mod AssociateLaws
