@@ -2,3 +2,4 @@ pub mod PieceLaws
 pub mod ContextLaws
 pub mod FrameLaws
 pub mod AssociateLaws
+pub mod Agree

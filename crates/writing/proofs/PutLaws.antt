@@ -2,11 +2,10 @@
 -- Assumes nothing.
 use Prim.Native.Nat.{ℕ, _+_, _≤_}
 use native.Mathlib.Omega.{arith}
-use mathlib.Core.List.{List, [], _∷_, _++_}
-use mathlib.Core.Path.{_≡_, refl, sym, ap, _∙_}
-use lib.ListN.{length, getD, length-append}
+use mathlib.Core.List.{List, [], _++_}
+use mathlib.Core.Path.{_≡_, sym, ap, _∙_}
+use lib.ListN.{length, length-append}
 use borrow.Author.Needs.{needs}
-use Rattle.octets.specs.Octets.{four}
 use Rattle.octets.specs.Put.{put, Placed}
 use Rattle.octets.proofs.PutLaws.{put-out, put-behind, put-put, put-length, put-none}
 use Rattle.writing.specs.Inner.{Put}
@@ -34,9 +33,3 @@ module _ (o a b o₁ : List ℕ) (at m : ℕ) (p : Put o at a m o₁) (h : at + 
       let l = p .behind in
       let j = q .behind in
       record { behind = simp length-append (omega arith); out = q .out ∙ (rw (p .out, l) (put-put o at a b (omega arith))) }
-
--- ---- `header`
-pub header-is : (l : List ℕ) (kind n : ℕ) → l ≡ four n → kind ∷ 0 ∷ getD l 0 0 ∷ getD l 1 0 ∷ getD l 2 0 ∷ getD l 3 0 ∷ [] ≡ kind ∷ 0 ∷ four n
-header-is l kind n e = rw e
-
-pub ruleset header-laws = (needs, header-is)

@@ -1,8 +1,8 @@
 -- `write_data` meets its contract.
 -- Assumes nothing.
-use Rattle.writing.proofs.TenLaws.{data-laws}
-use Rattle.writing.proofs.ten.write_data.Statement.{statement}
-use Rattle.writing.proofs.ten.write_data.Tie as tie
+use Rattle.writing.proofs.DataLaws.{data-laws}
+use Rattle.writing.proofs.data.write_data.Statement.{statement}
+use Rattle.writing.proofs.data.write_data.Tie as tie
 
 pub write-data-spec : {M : Type 1} → statement M
 write-data-spec =

@@ -1,8 +1,8 @@
 -- `header` meets its contract.
 -- Assumes nothing.
-use Rattle.writing.proofs.PutLaws.{header-laws}
-use Rattle.writing.proofs.pieces.header.Statement.{statement}
-use Rattle.writing.proofs.pieces.header.Tie as tie
+use Rattle.writing.proofs.DataLaws.{header-laws}
+use Rattle.writing.proofs.data.header.Statement.{statement}
+use Rattle.writing.proofs.data.header.Tie as tie
 
 pub header-spec : {M : Type 1} → statement M
 header-spec =

@@ -1,8 +1,8 @@
 -- `most_of` meets its contract.
 -- Assumes nothing.
-use Rattle.writing.proofs.TenLaws.{most-laws}
-use Rattle.writing.proofs.ten.most_of.Statement.{statement}
-use Rattle.writing.proofs.ten.most_of.Tie as tie
+use Rattle.writing.proofs.DataLaws.{most-laws}
+use Rattle.writing.proofs.data.most_of.Statement.{statement}
+use Rattle.writing.proofs.data.most_of.Tie as tie
 
 pub most-of-spec : {M : Type 1} → statement M
 most-of-spec =
