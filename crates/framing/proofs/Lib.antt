@@ -6,3 +6,8 @@ pub mod Reference
 pub mod Call
 pub mod Hosts
 pub mod Cuts
+pub mod Sim
+pub mod Guard
+pub mod Log
+pub mod Slots
+pub mod Line

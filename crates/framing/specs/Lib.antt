@@ -4,3 +4,6 @@ pub mod Framing
 pub mod Host
 pub mod Reference
 pub mod Engine
+pub mod Log
+pub mod Slots
+pub mod Line

@@ -16,3 +16,8 @@ after l x = record { trace = l ++ x .trace; end = x .end }
 unfoldable pub runs : {I T S : Type 0} → (I → S → Ran T S) → List I → S → Ran T S
 runs step [] s = stop s
 runs step (i ∷ is) s = let x = step i s in after (x .trace) (runs step is (x .end))
+
+-- what the steps of a list give to a part of the whole, each by where it is taken
+unfoldable pub givens : {I J T S : Type 0} → (I → S → Ran T S) → (I → S → List J) → List I → S → List J
+givens step given [] s = []
+givens step given (i ∷ is) s = given i s ++ givens step given is (step i s .end)
