@@ -8,7 +8,7 @@ use mathlib.Core.List.{List, [], _∷_, _++_, append-assoc}
 use native.Mathlib.Nat.{add-sub-of-le}
 use native.Mathlib.Omega.{arith}
 use lib.ListN.{length, take, drop, length-append, length-drop}
-use lib.Seq.{take-append-seam, take-append-le, drop-append-le, drop-append-add, take-append-add, length-take-le, drop-length, take-at}
+use lib.Seq.{take-append-seam, take-append-le, drop-append-le, drop-append-add, take-append-add, length-take-le, drop-length, take-length, take-at}
 use Rattle.octets.specs.Put.{put, front}
 use Rattle.octets.proofs.PutLaws.{put-length}
 use Rattle.framing.specs.Runs.{Ran, stop, after}
@@ -155,7 +155,8 @@ module _ (M : Machine) (L : Laws M) where
       let fits : l .count + length p ≤ length (l .gather) = omega (arith, length-append (take (l .count) (l .gather)) p, ok .room) in
       let len : length (put (l .gather) (l .count) p) ≡ length (l .gather) = put-length (l .gather) (l .count) p fits in
       let now : take (l .count + length p) (put (l .gather) (l .count) p) ≡ take (l .count) (l .gather) ++ p = take-put (l .gather) (l .count) p (ok .within) in
-      record {
+      rw (take-length p)
+      (record {
         at-most = omega arith;
         at-least = λ h. h;
         ready =
@@ -168,7 +169,7 @@ module _ (M : Machine) (L : Laws M) where
               output = ok .output;
             };
         same = rw (now, drop-length p);
-      }
+      })
   called-by l p t ok false eb long ef (at-six a b c) =
       acted l p t ok 6 a b (omega arith) (onLong (l .state)) (L .long (l .state) (ok .sound) eb) 0 [] refl (framed-step M (l .state) _ ∙ rw (eb, c t))
   called-by l p t ok false eb (whole n) ef (at-end a b c d g) =
@@ -235,4 +236,5 @@ module _ (M : Machine) (L : Laws M) where
 
   -- A LOCAL EVENT
   pub told : (l : Lent M) (c : One) (e : E) → Ready l → Done (eng.calls M .onEvent l c e) (ref.refItem M (event c e) (eng.boxOf M l))
+  unfolding eng.local
   told l c e ok = told-by l (onLocal (l .state) e) ok (λ x q. L .local (l .state) e x (ok .sound) q)

@@ -74,3 +74,12 @@ module _ (M : Machine) (L : Laws M) where
   pub reached : (is : List (Item One E)) (r : R) (g o : List ℕ) → L .Sound r → 6 + limit ≤ length g → 6 + limit ≤ length o
       → Ready M L (host.script (eng.calls M) is (eng.fresh M r g o) .end)
   reached is r g o s hg ho = cuts is (eng.fresh M r g o) (ready-fresh M L r g o s hg ho) .ready
+
+  -- and there each call on a piece that is not empty uses a byte or more of it
+  pub uses-a-byte : (is : List (Item One E)) (r : R) (g o : List ℕ) → L .Sound r → 6 + limit ≤ length g → 6 + limit ≤ length o
+      → (p : List ℕ) → 0 < length p
+      → (0 < eng.receive M (host.script (eng.calls M) is (eng.fresh M r g o) .end) p .used)
+      × (eng.receive M (host.script (eng.calls M) is (eng.fresh M r g o) .end) p .used ≤ length p)
+  uses-a-byte is r g o s hg ho p h =
+      let k = called M L (host.script (eng.calls M) is (eng.fresh M r g o) .end) p [] (reached is r g o s hg ho) in
+      (k .at-least h, k .at-most)

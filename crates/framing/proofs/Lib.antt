@@ -13,3 +13,6 @@ pub mod Slots
 pub mod Line
 pub mod Steps
 pub mod Toy
+pub mod Instances
+pub mod Stream
+pub mod EndToEnd

@@ -7,7 +7,7 @@ use mathlib.Core.Option.{Option, none, some}
 use mathlib.Core.List.{List, [], _∷_}
 use native.Mathlib.Omega.{arith}
 use lib.ListN.{length, replicate}
-use lib.Dec.{eqb}
+use lib.Dec.{ltb}
 use Rattle.octets.specs.Octets.{be16, be32}
 use Rattle.octets.specs.Put.{put, front}
 use Rattle.framing.specs.Runs.{Ran, runs}
@@ -29,12 +29,12 @@ use Rattle.framing.proofs.Cuts.{from-fresh}
 abbrev Any : ℕ → Type 0
 Any r = 0 ≤ r
 
-opened : (most : ℕ) (b : Bool) (x : Reaction ℕ ℕ) → cond b (some (record { next = 1; told = 11; sends = []; shows = false })) none ≡ some x
+moved : (most v : ℕ) (b : Bool) (x : Reaction ℕ ℕ) → cond b (some (record { next = v; told = v; sends = []; shows = false })) none ≡ some x
     → Kept (toy most) Any x
-opened most true x e =
-    let q : record { next = 1; told = 11; sends = []; shows = false } ≡ x = cc in
+moved most v true x e =
+    let q : record { next = v; told = v; sends = []; shows = false } ≡ x = cc in
     subst (Kept (toy most) Any) q (record { sound = omega arith; room = omega arith })
-opened most false x e = let z : _≡_ {A = ℕ} 0 1 = cc in absurd (omega arith)
+moved most v false x e = let z : _≡_ {A = ℕ} 0 1 = cc in absurd (omega arith)
 
 abbrev toy-laws : (most : ℕ) → Laws (toy most)
 toy-laws most =
@@ -42,7 +42,7 @@ toy-laws most =
       Sound = Any;
       pdu = λ r p s e. record { sound = omega arith; room = omega arith };
       long = λ r s e. record { sound = omega arith; room = omega arith };
-      local = λ r v x s e. opened most (eqb v 1) x e;
+      local = λ r v x s e. moved most v (ltb v 2) x e;
     }
 
 pub toy-cuts : (most : ℕ) (is : List (Item One ℕ)) (r : ℕ) (g o : List ℕ) → 6 + most ≤ length g → 6 + most ≤ length o
@@ -65,13 +65,13 @@ abbrev wanted : List (Item One ℕ) → List (Entry ℕ)
 wanted is = ref.reference (toy 4) is (ref.box (toy 4) 1 []) .trace
 
 pub first-pdu : host.script (out.firstPdu (eng.calls (toy 4))) two (out.rested (eng.calls (toy 4)) engine) .trace ≡ wanted two → ⊥
-unfolding runs host.feed eng.receive put front ref.framed split byLength rounds frame lengthField be32 be16
+unfolding runs host.feed eng.receive eng.local put front ref.framed split byLength rounds frame lengthField be32 be16
 first-pdu e = let z : _≡_ {A = ℕ} 1 2 = ap length e in omega arith
 
 pub first-piece : host.script (out.firstPiece (eng.calls (toy 4))) cut (out.rested (eng.calls (toy 4)) engine) .trace ≡ wanted cut → ⊥
-unfolding runs host.feed eng.receive put front ref.framed split byLength rounds frame lengthField be32 be16
+unfolding runs host.feed eng.receive eng.local put front ref.framed split byLength rounds frame lengthField be32 be16
 first-piece e = let z : _≡_ {A = ℕ} 0 2 = ap length e in omega arith
 
 pub boastful : host.script (out.boastful (eng.calls (toy 4))) two engine .trace ≡ wanted two → ⊥
-unfolding runs host.feed eng.receive put front ref.framed split byLength rounds frame lengthField be32 be16
+unfolding runs host.feed eng.receive eng.local put front ref.framed split byLength rounds frame lengthField be32 be16
 boastful e = let z : _≡_ {A = ℕ} 1 2 = ap length e in omega arith
