@@ -11,7 +11,8 @@ use Rattle.framing.specs.Reference as ref
 use Rattle.framing.specs.Reference.{Machine}
 use Rattle.framing.specs.Engine as eng
 use Rattle.framing.specs.Engine.{Lent}
-use Rattle.framing.proofs.Call.{Laws, Ready, ready-fresh, Called, called, at-rest, Done, told}
+use Rattle.framing.proofs.Ready.{Laws, Ready, ready-fresh}
+use Rattle.framing.proofs.Call.{Called, called, at-rest, Done, told}
 use Rattle.framing.proofs.Hosts.{Advances, cut-script, kept-script}
 
 module _ (M : Machine) (L : Laws M) where

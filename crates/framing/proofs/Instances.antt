@@ -16,7 +16,8 @@ use Rattle.framing.specs.Log as log
 use Rattle.framing.specs.Slots.{givenTo, slots, atSlot}
 use Rattle.framing.specs.Line as line
 use Rattle.framing.specs.Line.{Side, Line, Move}
-use Rattle.framing.proofs.Call.{Laws, Ready, Done}
+use Rattle.framing.proofs.Ready.{Laws, Ready}
+use Rattle.framing.proofs.Call.{Done}
 use Rattle.framing.proofs.Cuts.{hosts, advances, cuts}
 use Rattle.framing.proofs.Guard.{second, same-scripts, same-hosts}
 use Rattle.framing.proofs.Log.{all-logged}

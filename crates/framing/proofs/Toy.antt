@@ -20,7 +20,7 @@ use Rattle.framing.specs.Reference.{Machine, Reaction}
 use Rattle.framing.specs.Engine as eng
 use Rattle.framing.specs.ShutOut as out
 use Rattle.framing.specs.Toy.{toy}
-use Rattle.framing.proofs.Call.{Laws, Kept}
+use Rattle.framing.proofs.Ready.{Kept, Laws}
 use Rattle.framing.proofs.Cuts.{from-fresh}
 
 -- ---- the laws
@@ -64,14 +64,14 @@ engine = eng.fresh (toy 4) 1 (replicate 10 0) (replicate 10 0)
 abbrev wanted : List (Item One ℕ) → List (Entry ℕ)
 wanted is = ref.reference (toy 4) is (ref.box (toy 4) 1 []) .trace
 
-pub first-pdu : host.script (out.firstPdu (eng.calls (toy 4))) two (out.rested (eng.calls (toy 4)) engine) .trace ≡ wanted two → ⊥
+pub first-pdu : host.script (out.firstPdu (eng.calls (toy 4))) two (out.working (eng.calls (toy 4)) engine) .trace ≡ wanted two → ⊥
 unfolding runs host.feed eng.receive eng.local put front ref.framed split byLength rounds frame lengthField be32 be16
 first-pdu e = let z : _≡_ {A = ℕ} 1 2 = ap length e in omega arith
 
-pub first-piece : host.script (out.firstPiece (eng.calls (toy 4))) cut (out.rested (eng.calls (toy 4)) engine) .trace ≡ wanted cut → ⊥
+pub first-piece : host.script (out.firstPiece (eng.calls (toy 4))) cut (out.working (eng.calls (toy 4)) engine) .trace ≡ wanted cut → ⊥
 unfolding runs host.feed eng.receive eng.local put front ref.framed split byLength rounds frame lengthField be32 be16
 first-piece e = let z : _≡_ {A = ℕ} 0 2 = ap length e in omega arith
 
-pub boastful : host.script (out.boastful (eng.calls (toy 4))) two engine .trace ≡ wanted two → ⊥
+pub over-reporting : host.script (out.overReporting (eng.calls (toy 4))) two engine .trace ≡ wanted two → ⊥
 unfolding runs host.feed eng.receive eng.local put front ref.framed split byLength rounds frame lengthField be32 be16
-boastful e = let z : _≡_ {A = ℕ} 1 2 = ap length e in omega arith
+over-reporting e = let z : _≡_ {A = ℕ} 1 2 = ap length e in omega arith

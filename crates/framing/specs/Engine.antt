@@ -67,7 +67,7 @@ module _ (M : Machine) where
   unfoldable pub receive : Lent → List ℕ → Answer
   receive l p = receiveBy (drops (l .state)) (frame limit (take (l .count) (l .gather) ++ p)) l p
 
-  -- a local event uses no bytes; where bytes are dropped from now on, none are gathered
+  -- a local event uses no bytes, and nothing comes of a refused one; where bytes are dropped from now on, none are gathered
   abbrev pub localBy : Option (Reaction R A) → Lent → Answer
   localBy none l = quiet 0 l
   localBy (some x) l = acts 0 x 0 (cond (drops (x .next)) 0 (l .count)) l

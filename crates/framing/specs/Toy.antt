@@ -37,8 +37,8 @@ toy most =
 abbrev saw : ℕ → List ℕ → List ℕ → Entry ℕ
 saw told shown sent = record { told = told; shown = shown; sent = sent }
 
--- ---- a script: a refused event; the opening; a run of three PDUs, the third too long (limit 4), and a byte; a byte more; and a second opening, half a
--- header, the closing, a third opening, and a PDU of its own
+-- ---- a script: a refused event; the opening; a run of three PDUs, the third too long (limit 4), and a byte; a byte more; a second opening, a PDU and half a
+-- header; the closing; a third opening, a PDU and a byte
 
 abbrev given : List (List ℕ) → List (Item One ℕ)
 given ps =
@@ -47,7 +47,7 @@ given ps =
     ∷ run one ps
     ∷ run one ((5 ∷ []) ∷ [])
     ∷ event one 1
-    ∷ run one ((2 ∷ 0 ∷ 0 ∷ []) ∷ [])
+    ∷ run one ((2 ∷ 0 ∷ 0 ∷ 0 ∷ 0 ∷ 0 ∷ 2 ∷ 0 ∷ 0 ∷ []) ∷ [])
     ∷ event one 0
     ∷ event one 1
     ∷ run one ((2 ∷ 0 ∷ 0 ∷ 0 ∷ 0 ∷ 0 ∷ 4 ∷ []) ∷ [])
@@ -68,6 +68,7 @@ by-reference : ref.reference (toy 4) (given whole) (ref.box (toy 4) 0 [])
           ∷ saw 2 [] (2 ∷ 6 ∷ [])
           ∷ saw 99 [] (99 ∷ [])
           ∷ saw 1 [] []
+          ∷ saw 2 [] (2 ∷ 6 ∷ [])
           ∷ saw 0 [] []
           ∷ saw 1 [] []
           ∷ saw 2 [] (2 ∷ 6 ∷ [])
