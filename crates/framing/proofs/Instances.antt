@@ -1,4 +1,4 @@
--- Cut independence for a second engine or one that also refuses, for a log beside the engine, for slots and for both ends of a line.
+-- Cut independence for a second engine, as is one that also refuses; with a log beside the engine; for each slot; for each end of a line.
 -- Assumes nothing.
 use Prim.Native.Nat.{ℕ, _+_, _≤_, _<_}
 use mathlib.Core.Path.{_≡_, refl, sym, ap, _∙_}
@@ -7,7 +7,7 @@ use mathlib.Core.List.{List, [], _∷_, _++_, map}
 use lib.ListN.{length}
 use Rattle.framing.specs.Runs.{Ran}
 use Rattle.framing.specs.Host as host
-use Rattle.framing.specs.Host.{Entry, One, Item, Heard, HostedScript}
+use Rattle.framing.specs.Host.{Entry, One, Item, Calls, HostedScript}
 use Rattle.framing.specs.Reference as ref
 use Rattle.framing.specs.Reference.{Machine}
 use Rattle.framing.specs.Engine as eng
@@ -19,7 +19,7 @@ use Rattle.framing.specs.Line.{Side, Line, Move}
 use Rattle.framing.proofs.Ready.{Laws, Ready}
 use Rattle.framing.proofs.Call.{Done}
 use Rattle.framing.proofs.Cuts.{hosts, advances, cuts}
-use Rattle.framing.proofs.Guard.{second, same-scripts, same-hosts}
+use Rattle.framing.proofs.Second.{Answers, ranBy, same-scripts, same-hosts}
 use Rattle.framing.proofs.Log.{all-logged}
 use Rattle.framing.proofs.Slots.{alone}
 use Rattle.framing.proofs.Line.{atEnd, each-end}
@@ -27,18 +27,14 @@ use Rattle.framing.proofs.Line.{atEnd, each-end}
 module _ (M : Machine) (L : Laws M) where
   open Machine M using (R, E, A, limit)
 
-  -- ---- calls that answer as the engine's do wherever it is ready
-  module _ (receive : Lent M → One → List ℕ → Heard (Entry A) (Lent M)) (onEvent : Lent M → One → E → Ran (Entry A) (Lent M))
-      (hears : (l : Lent M) (c : One) (p : List ℕ) → Ready M L l → receive l c p ≡ eng.calls M .receive l c p)
-      (does : (l : Lent M) (c : One) (e : E) → Ready M L l → onEvent l c e ≡ eng.calls M .onEvent l c e) where
-    pub second-cuts : (is : List (Item One E)) (l : Lent M) → Ready M L l
-        → Done M L (host.script (record { S = Lent M; receive = receive; onEvent = onEvent }) is l) (ref.reference M is (eng.boxOf M l))
-    second-cuts is l ok =
-        rw (same-scripts (eng.calls M) (Ready M L) (advances M L) receive onEvent hears does is l ok) (cuts M L is l ok)
+  -- ---- calls that answer as the engine's do wherever it is ready, their state seen through `of`
+  module _ (Y : Calls One E (Entry A)) (of : Y .S → Lent M) (ans : Answers (eng.calls M) (Ready M L) Y of) where
+    pub second-cuts : (is : List (Item One E)) (z : Y .S) → Ready M L (of z) → Done M L (ranBy of (host.script Y is z)) (ref.reference M is (eng.boxOf M (of z)))
+    second-cuts is z ok = rw (same-scripts (eng.calls M) (Ready M L) (advances M L) Y of ans is z ok) (cuts M L is (of z) ok)
 
-    pub second-hosts : {is : List (Item One E)} {l : Lent M} {y : Ran (Entry A) (Lent M)} → Ready M L l
-        → HostedScript (record { S = Lent M; receive = receive; onEvent = onEvent }) l is y → Done M L y (ref.reference M is (eng.boxOf M l))
-    second-hosts ok w = hosts M L ok (same-hosts (eng.calls M) (Ready M L) (advances M L) receive onEvent hears does ok w)
+    pub second-hosts : {is : List (Item One E)} {z : Y .S} {y : Ran (Entry A) (Y .S)} → Ready M L (of z) → HostedScript Y z is y
+        → Done M L (ranBy of y) (ref.reference M is (eng.boxOf M (of z)))
+    second-hosts ok w = hosts M L ok (same-hosts (eng.calls M) (Ready M L) (advances M L) Y of ans ok w)
 
   -- ---- with a log: the same trace and end, and a record for each action
   pub logged-cuts : {X : Type 0} (note : Entry A → X) (room : ℕ) (is : List (Item One E)) (l : Lent M) (kept : List X) → Ready M L l

@@ -11,7 +11,7 @@ pub mod Hosts
 pub mod Cuts
 pub mod Steps
 pub mod Sim
-pub mod Guard
+pub mod Second
 pub mod Log
 pub mod Slots
 pub mod Line
