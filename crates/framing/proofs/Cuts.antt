@@ -2,7 +2,7 @@
 -- Assumes nothing.
 use Prim.Native.Nat.{ℕ, _+_, _≤_, _<_}
 use mathlib.Core.Path.{_≡_, refl, sym, ap, _∙_}
-use mathlib.Core.List.{List, [], _∷_, _++_, append-assoc, append-nil}
+use mathlib.Core.List.{List, [], _∷_, _++_, map, append-assoc, append-nil}
 use lib.ListN.{length, take, drop}
 use Rattle.framing.specs.Runs.{Ran, stop, after, runs}
 use Rattle.framing.specs.Host as host
@@ -70,6 +70,13 @@ module _ (M : Machine) (L : Laws M) where
   pub from-fresh : (is : List (Item One E)) (r : R) (g o : List ℕ) → L .Sound r → 6 + limit ≤ length g → 6 + limit ≤ length o
       → eng.boxed M (host.script (eng.calls M) is (eng.fresh M r g o)) ≡ ref.reference M is (ref.box M r [])
   from-fresh is r g o s hg ho = cuts is (eng.fresh M r g o) (ready-fresh M L r g o s hg ho) .same
+
+  -- so whatever a reading call makes of the PDUs shown is the same
+  pub read-alike : {X : Type 0} (read : List ℕ → X) (is : List (Item One E)) (r : R) (g o : List ℕ) → L .Sound r → 6 + limit ≤ length g → 6 + limit ≤ length o
+      → map (λ (x : Entry A). read (x .shown)) (host.script (eng.calls M) is (eng.fresh M r g o) .trace)
+      ≡ map (λ (x : Entry A). read (x .shown)) (ref.reference M is (ref.box M r []) .trace)
+  read-alike read is r g o s hg ho =
+      ap (λ (y : Ran (Entry A) (ref.Box M)). map (λ (x : Entry A). read (x .shown)) (y .trace)) (from-fresh is r g o s hg ho)
 
   -- and wherever it leads the engine is ready
   pub reached : (is : List (Item One E)) (r : R) (g o : List ℕ) → L .Sound r → 6 + limit ≤ length g → 6 + limit ≤ length o
