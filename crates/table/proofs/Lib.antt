@@ -1,0 +1,4 @@
+pub mod Grid
+pub mod Right
+pub mod Columns
+pub mod Agree
