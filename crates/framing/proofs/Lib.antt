@@ -1,0 +1,13 @@
+pub mod Rounds
+pub mod Runs
+pub mod Framing
+pub mod Split
+pub mod Reference
+pub mod Call
+pub mod Hosts
+pub mod Cuts
+pub mod Sim
+pub mod Guard
+pub mod Log
+pub mod Slots
+pub mod Line
