@@ -1,2 +1,3 @@
 pub mod OctetLaws
 pub mod PutLaws
+pub mod Agree

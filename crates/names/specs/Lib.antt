@@ -1,0 +1,4 @@
+pub mod Name
+pub mod Part
+pub mod Title
+pub mod Own

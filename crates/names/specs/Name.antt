@@ -1,0 +1,30 @@
+-- A name (UID): "1 to 64 bytes of digits and dots; components non-empty, no leading zero unless the component is "0"."
+use mathlib.Core.Bool.{Bool, true, false, cond, not, _&&_, _||_}
+use mathlib.Core.List.{List, [], _∷_}
+use Prim.Native.Nat.{ℕ}
+use lib.Dec.{leb, eqb}
+use lib.ListN.{length}
+use Rattle.laws.specs.Lists.{all, empty}
+
+-- x put in front of the first part
+abbrev pub ahead : ℕ → List (List ℕ) → List (List ℕ)
+ahead x [] = (x ∷ []) ∷ []
+ahead x (p ∷ ps) = (x ∷ p) ∷ ps
+
+-- the parts between the separators: one more than there are separators
+abbrev pub split : ℕ → List ℕ → List (List ℕ)
+split sep [] = [] ∷ []
+split sep (x ∷ xs) = cond (eqb x sep) ([] ∷ split sep xs) (ahead x (split sep xs))
+
+-- '0' is 48, '9' is 57
+abbrev pub digit : ℕ → Bool
+digit b = leb 48 b && leb b 57
+
+-- not empty, digits alone, and with a first digit 0 nothing after it
+abbrev pub component : List ℕ → Bool
+component [] = false
+component (x ∷ xs) = all digit (x ∷ xs) && (not (eqb x 48) || empty xs)
+
+-- '.' is 46
+unfoldable pub nameOk : List ℕ → Bool
+nameOk s = leb 1 (length s) && leb (length s) 64 && all component (split 46 s)
