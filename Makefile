@@ -1,0 +1,11 @@
+# The commands of README.md.
+.PHONY: run test fuzz bench
+
+# Proves, builds and runs the listen program on a real sender's request, and shows its lines.
+run:
+	@rt check listen
+	@target/bin/listen < tests/listen/dcmtk_echo.in
+
+# The gate: every proof, every must-fail edit, every program, every other test.
+test:
+	@bash .ci/run

@@ -1,0 +1,4 @@
+pub mod Fields
+pub mod Ten
+pub mod Wire
+pub mod Form
