@@ -1,20 +1,19 @@
--- Any two permitted answers of each public function agree.
+-- Any two permitted answers agree, for each public function.
 -- Assumes nothing.
-use Prim.Native.Nat.{ℕ}
-use mathlib.Core.Path.{_≡_}
-use mathlib.Core.Bool.{Bool}
-use Rattle.laws.proofs.Agree.{agree}
-use Rattle.table.specs.Actions.{nextOf, artimOf, showsOf}
-use Rattle.table.specs.Table.{cellOf}
+use Rattle.laws.proofs.Agree.{agree, Agrees}
+use Rattle.table.proofs.cell as cell
+use Rattle.table.proofs.next_state as next-state
+use Rattle.table.proofs.artim_after as artim-after
+use Rattle.table.proofs.shows as shows
 
-pub cell-agrees : (e s : ℕ) {r r′ : ℕ} → r ≡ cellOf e s → r′ ≡ cellOf e s → r ≡ r′
-cell-agrees e s p q = agree p q
+pub cell-agrees : Agrees 0 cell.Kinds.ps cell.Kinds.r cell.Reads.Post
+cell-agrees κs args a b x y p q = agree p q
 
-pub next-state-agrees : (a : ℕ) (b c : Bool) {r r′ : ℕ} → r ≡ nextOf a b c → r′ ≡ nextOf a b c → r ≡ r′
-next-state-agrees a b c p q = agree p q
+pub next-state-agrees : Agrees 0 next-state.Kinds.ps next-state.Kinds.r next-state.Reads.Post
+next-state-agrees κs args a b x y p q = agree p q
 
-pub artim-after-agrees : (a : ℕ) (b c : Bool) {r r′ : Bool} → r ≡ artimOf a b c → r′ ≡ artimOf a b c → r ≡ r′
-artim-after-agrees a b c p q = agree p q
+pub artim-after-agrees : Agrees 0 artim-after.Kinds.ps artim-after.Kinds.r artim-after.Reads.Post
+artim-after-agrees κs args a b x y p q = agree p q
 
-pub shows-agrees : (a : ℕ) (b : Bool) {r r′ : Bool} → r ≡ showsOf a b → r′ ≡ showsOf a b → r ≡ r′
-shows-agrees a b p q = agree p q
+pub shows-agrees : Agrees 0 shows.Kinds.ps shows.Kinds.r shows.Reads.Post
+shows-agrees κs args a b x y p q = agree p q

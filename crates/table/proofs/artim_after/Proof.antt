@@ -1,3 +1,5 @@
+-- `artim_after` meets its contract. AE-6 asks `accepts`; elsewhere the timer goes by the column.
+-- Assumes nothing.
 use Rattle.table.proofs.Columns.{artim-laws}
 use borrow.Author.Needs.{needs}
 use Rattle.table.proofs.artim_after.Statement.{statement}

@@ -1,3 +1,5 @@
+-- `cell` meets its contract. Outside the table there is no action; inside, the constant is the printed table, by its one computed test (Right).
+-- Assumes nothing.
 use mathlib.Core.Path.{_≡_, refl, sym}
 use Rattle.table.specs.Table.{table}
 use Rattle.table.proofs.Right.{cells, cell-right, no-event, past-rows, no-state, past-columns}

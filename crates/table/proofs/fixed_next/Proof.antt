@@ -1,3 +1,5 @@
+-- `fixed_next` meets its contract. The constant is the column of next states, by its computed test (Columns).
+-- Assumes nothing.
 use Rattle.table.specs.Actions.{actions}
 use Rattle.table.proofs.Columns.{nexts, next-column, column-none, column-past, column-at}
 use borrow.Author.Needs.{needs}

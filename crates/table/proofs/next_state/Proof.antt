@@ -1,3 +1,5 @@
+-- `next_state` meets its contract. The two exceptions, and the column elsewhere.
+-- Assumes nothing.
 use Rattle.table.proofs.Columns.{next-laws}
 use borrow.Author.Needs.{needs}
 use Rattle.table.proofs.next_state.Statement.{statement}

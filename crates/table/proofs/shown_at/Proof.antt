@@ -1,3 +1,5 @@
+-- `shown_at` meets its contract. The constant is the column of what is shown, by its computed test (Columns).
+-- Assumes nothing.
 use Rattle.table.specs.Actions.{actions}
 use Rattle.table.proofs.Columns.{marks, mark-column, column-none, column-past, column-at}
 use borrow.Author.Needs.{needs}

@@ -1,3 +1,5 @@
+-- `shows` meets its contract. AE-6 asks `accepts`; elsewhere the column decides.
+-- Assumes nothing.
 use Rattle.table.proofs.Columns.{shows-laws}
 use borrow.Author.Needs.{needs}
 use Rattle.table.proofs.shows.Statement.{statement}
