@@ -1,3 +1,4 @@
+pub mod Or
 pub mod Grid
 pub mod Right
 pub mod Columns

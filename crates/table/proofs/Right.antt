@@ -10,10 +10,11 @@ use native.Mathlib.Decide.{decLt}
 use lib.Dec.{T, eqb, ltb, leb, eqb→eq, leb→le}
 use lib.ListN.{length, getD, drop, List·getD-eq-default}
 use borrow.Author.Tests.{eq-eqb, ne-eqb}
+use Rattle.laws.specs.Lists.{among}
 use Rattle.laws.proofs.Booleans.{T-left, T-right}
 use Rattle.laws.proofs.Below.{allBelow, below}
 use Rattle.table.specs.Actions.{actions, doesOf, nextOf}
-use Rattle.table.specs.Table.{table, cellOf}
+use Rattle.table.specs.Table.{table, cellOf, isReceived}
 use Rattle.table.proofs.Grid.{grid, each}
 
 -- the cells, row behind row
@@ -27,10 +28,6 @@ cells = flat table
 abbrev blanks : List ℕ → ℕ
 blanks [] = 0
 blanks (x ∷ xs) = cond (eqb x 0) 1 0 + blanks xs
-
--- the events that bytes bring
-abbrev pub isReceived : ℕ → Bool
-isReceived e = eqb e 3 || eqb e 4 || eqb e 6 || eqb e 10 || eqb e 12 || eqb e 13 || eqb e 16 || eqb e 19
 
 -- no bytes are heard in Sta1 and Sta4
 abbrev pub hears : ℕ → Bool
@@ -54,7 +51,7 @@ abbrev right : List ℕ → Bool
 right l = eqb (length l) 247 && (eqb (blanks l) 124 && grid (rightAt l))
 
 tested : T (right cells)
-unfolding cells table cellOf actions doesOf nextOf
+unfolding cells table cellOf isReceived among actions doesOf nextOf
 tested = tt
 
 -- ---- what it says of the whole

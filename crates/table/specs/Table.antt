@@ -1,7 +1,9 @@
 -- Table 9-10 of PS3.8 2017e, row by row as it is printed.
 use Prim.Native.Nat.{ℕ}
+use mathlib.Core.Bool.{Bool}
 use mathlib.Core.List.{List, [], _∷_}
 use lib.ListN.{getD}
+use Rattle.laws.specs.Lists.{among}
 use Rattle.table.specs.Names.{····}
 use Rattle.table.specs.Names.{AE-1, AE-2, AE-3, AE-4, AE-5, AE-6, AE-7, AE-8, DT-1, DT-2}
 use Rattle.table.specs.Names.{AR-1, AR-2, AR-3, AR-4, AR-5, AR-6, AR-7, AR-8, AR-9, AR-10}
@@ -41,3 +43,7 @@ table =
 -- the action at an event in a state; 0 at a blank cell, and outside the table
 unfoldable pub cellOf : ℕ → ℕ → ℕ
 cellOf event state = getD (getD table event []) state 0
+
+-- the events that bytes bring: the rows of PDUs
+unfoldable pub isReceived : ℕ → Bool
+isReceived event = among event (3 ∷ 4 ∷ 6 ∷ 10 ∷ 12 ∷ 13 ∷ 16 ∷ 19 ∷ [])

@@ -3,7 +3,7 @@ ghost use mathlib.Core.Path.{_≡_};
 ghost use Prim.Native.Nat.{_+_, _-_, _*_, _≤_, _<_};
 ghost use mathlib.Core.Bool.{false};
 ghost use Rattle.table.specs.Actions.{nextOf, showsOf, artimOf};
-ghost use Rattle.table.specs.Table.{cellOf};
+ghost use Rattle.table.specs.Table.{cellOf, isReceived};
 ghost use Rattle.table.specs.Columns.{timerOf, shownOf};
 
 // The actions' numbers (0a DT-2, 14 AR-10, 15 to 1c AA-1 to AA-8): a line to an event, 1 to 19, of states 1 to 13.
@@ -166,4 +166,32 @@ pub fn shows(action: u8, accepts: bool) -> bool
         return accepts;
     }
     shown_at(action) == 1
+}
+
+// Whether bytes bring the event: the rows of PDUs.
+pub fn is_received(event: u8) -> bool
+    ensures { λ r. ⌜ r ≡ isReceived event ⌝ }
+{
+    if event == 3 {
+        return true;
+    }
+    if event == 4 {
+        return true;
+    }
+    if event == 6 {
+        return true;
+    }
+    if event == 10 {
+        return true;
+    }
+    if event == 12 {
+        return true;
+    }
+    if event == 13 {
+        return true;
+    }
+    if event == 16 {
+        return true;
+    }
+    event == 19
 }
