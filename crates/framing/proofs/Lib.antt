@@ -11,3 +11,5 @@ pub mod Guard
 pub mod Log
 pub mod Slots
 pub mod Line
+pub mod Steps
+pub mod Toy
