@@ -113,7 +113,7 @@ module _ (b : List ℕ) (c : ℕ) (p : List ℕ) (f : Fit b c) where
     H : Wanted c 6 (length p) h
     H = wanted-at c 6 (F .to)
 
-    pub first-near : c + h < 16390
+    first-near : c + h < 16390
     first-near = omega (arith, near, F .to)
 
     first : b₁ ≡ put b c (take h p)
@@ -123,7 +123,7 @@ module _ (b : List ℕ) (c : ℕ) (p : List ℕ) (f : Fit b c) where
     few l =
         let e : h ≡ length p = H .all l in
         let q : frame 16384 (take c b ++ p) ≡ short = frame-few 16384 (take c b ++ p) (omega (arith, all-length)) in
-        record { used = rw q e; head = rw q; some = H .some; buffer = first }
+        record { used = rw q e; head = rw q; some = H .some; room = F .room; buffer = first }
 
     module _ (six : 6 ≤ c + h) (len : ℕ) (el : len ≡ lengthField b₁) where
       same : len ≡ lengthField (take c b ++ p)
@@ -135,7 +135,7 @@ module _ (b : List ℕ) (c : ℕ) (p : List ℕ) (f : Fit b c) where
       pub over : 16384 < len → Gathered b c p b₁ (record { used = h; head = Long })
       over l =
           let q : frame 16384 (take c b ++ p) ≡ long = frame-over 16384 (take c b ++ p) six-all (omega (arith, same)) in
-          record { used = rw q (by (decLt c 6)); head = rw q; some = H .some; buffer = first }
+          record { used = rw q (by (decLt c 6)); head = rw q; some = H .some; room = F .room; buffer = first }
         where
           by : Dec (c < 6) → h ≡ 6 - c
           by (yes x) = omega (arith, H .upto (omega arith))
@@ -179,9 +179,6 @@ module _ (b : List ℕ) (c : ℕ) (p : List ℕ) (f : Fit b c) where
           W : Wanted c (6 + len) (length p) m
           W = wanted-at c (6 + len) (G .to)
 
-          pub second-near : c + m ≤ 16390
-          second-near = omega (arith, near₂, G .to)
-
           both : take h p ++ take (m - h) (drop h p) ≡ take m p
           both =
               let le : h ≤ m = omega (arith, up, G .to) in
@@ -198,12 +195,12 @@ module _ (b : List ℕ) (c : ℕ) (p : List ℕ) (f : Fit b c) where
               let e : m ≡ length p = W .all k in
               let q : frame 16384 (take c b ++ p) ≡ short =
               frame-part 16384 (take c b ++ p) six-all (omega (arith, same)) (omega (arith, same, all-length)) in
-              record { used = rw q e; head = rw q; some = W .some; buffer = second }
+              record { used = rw q e; head = rw q; some = W .some; room = omega (arith, G .room, kept); buffer = second }
 
           pub full : 6 + len ≤ c + m → Gathered b c p b₂ (record { used = m; head = Whole })
           full k =
               let q : frame 16384 (take c b ++ p) ≡ whole (6 + lengthField (take c b ++ p)) =
               frame-full 16384 (take c b ++ p) six-all (omega (arith, same)) (omega (arith, same, all-length, W .some)) in
-              record { used = rw q (omega (arith, same, near₂, G .to)); head = rw q; some = W .some; buffer = second }
+              record { used = rw q (omega (arith, same, near₂, G .to)); head = rw q; some = W .some; room = omega (arith, G .room, kept); buffer = second }
 
 pub ruleset gather-laws = (needs, first-fills, few, over, second-fills)

@@ -47,4 +47,5 @@ pub record Gathered (b : List ℕ) (c : ℕ) (p : List ℕ) (b′ : List ℕ) (r
   pub used : r .used ≡ usedOf (frame 16384 (take c b ++ p)) c (length p)
   pub head : r .head ≡ headOf (frame 16384 (take c b ++ p))
   pub some : r .used ≤ length p
+  pub room : c + r .used ≤ length b
   pub buffer : b′ ≡ put b c (take (r .used) p)

@@ -1,2 +1,6 @@
-// Receiving: bytes of a piece to the gather buffer, through the one that brings an event, and the action of that event.
+// Receiving: the bytes of a piece go to the gather buffer, through the one that brings an event, and that event's action is done.
+mod deeds;
 mod gather;
+mod piece;
+
+pub use piece::receive;

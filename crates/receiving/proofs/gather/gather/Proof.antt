@@ -1,6 +1,6 @@
 -- `gather` meets its contract: the header is copied, then the body.
 -- Assumes nothing.
-use Rattle.receiving.proofs.GatherLaws.{gather-laws, first-near, second-near, part, full}
+use Rattle.receiving.proofs.GatherLaws.{gather-laws, part, full}
 use Rattle.receiving.proofs.gather.gather.Statement.{statement}
 use Rattle.receiving.proofs.gather.gather.Tie as tie
 
