@@ -2,3 +2,4 @@ pub mod Fields
 pub mod Ten
 pub mod Wire
 pub mod Form
+pub mod Inner
