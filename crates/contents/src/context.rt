@@ -65,7 +65,8 @@ fn proposed_ok(b: &[u8]) -> bool
     if b.len() < 4 {
         return false;
     }
-    if b[0] % 2 != 1 {
+    let id = b[0];
+    if id % 2 != 1 {
         return false;
     }
     subs_ok(&b[4..])
