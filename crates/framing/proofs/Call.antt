@@ -4,11 +4,10 @@ use Prim.Native.Nat.{ℕ, zero, suc, _+_, _-_, _≤_, _<_}
 use mathlib.Core.Path.{_≡_, refl, sym, ap, _∙_}
 use mathlib.Core.Bool.{Bool, true, false, cond}
 use mathlib.Core.Option.{Option, none, some}
-use mathlib.Core.List.{List, [], _∷_, _++_, append-assoc}
-use native.Mathlib.Nat.{add-sub-of-le}
+use mathlib.Core.List.{List, [], _∷_, _++_}
 use native.Mathlib.Omega.{arith}
-use lib.ListN.{length, take, drop, length-append, length-drop}
-use lib.Seq.{take-append-seam, take-append-le, drop-append-le, drop-append-add, take-append-add, length-take-le, drop-length, take-at}
+use lib.ListN.{length, take, drop, length-append}
+use lib.Seq.{length-take-le, drop-length, take-length}
 use Rattle.octets.specs.Put.{put, front}
 use Rattle.octets.proofs.PutLaws.{put-length}
 use Rattle.framing.specs.Runs.{Ran, stop, after}
@@ -19,92 +18,23 @@ use Rattle.framing.specs.Reference.{Machine, Reaction}
 use Rattle.framing.specs.Engine as eng
 use Rattle.framing.specs.Engine.{Lent, Answer}
 use Rattle.framing.proofs.Framing.{Begins, Begins.no-event, Begins.at-six, Begins.at-end, begins, frame-nil}
+use Rattle.framing.proofs.Buffers.{inside, behind, before, take-shown, take-none, take-put, take-front, front-length}
+use Rattle.framing.proofs.Ready.{Kept, Laws, Ready}
 use Rattle.framing.proofs.Reference.{framed-step, framed-dropped, framed-short}
-
--- ---- lists
-
--- of g, of c bytes, and p and t behind it, the first n bytes end in p
-module _ (g p t : List ℕ) (c n : ℕ) (lg : length g ≡ c) (low : c ≤ n) (high : n ≤ length (g ++ p)) where
-  inside : n - c ≤ length p
-  inside = omega (arith, length-append g p)
-
-  reach : n ≡ length g + (n - c)
-  reach = omega arith
-
-  behind : drop n ((g ++ p) ++ t) ≡ drop (n - c) p ++ t
-  behind =
-      drop-append-le n (g ++ p) t high
-      ∙ ap (λ (l : List ℕ). l ++ t) (ap (λ (k : ℕ). drop k (g ++ p)) reach ∙ drop-append-add g p (n - c))
-
-  before : take n ((g ++ p) ++ t) ≡ g ++ take (n - c) p
-  before = take-append-le n (g ++ p) t high ∙ (ap (λ (k : ℕ). take k (g ++ p)) reach ∙ take-append-add g p (n - c))
-
-take-shown : (b : Bool) (n : ℕ) (l : List ℕ) → take (cond b n 0) l ≡ cond b (take n l) []
-take-shown true n l = refl
-take-shown false n l = refl
-
-take-none : (b : Bool) (n : ℕ) (l : List ℕ) → take (cond b 0 n) l ≡ cond b [] (take n l)
-take-none true n l = refl
-take-none false n l = refl
-
--- a buffer's first bytes, once bs are put behind the first c
-pub take-put : (o : List ℕ) (c : ℕ) (bs : List ℕ) → c ≤ length o → take (c + length bs) (put o c bs) ≡ take c o ++ bs
-unfolding put
-take-put o c bs h =
-    let n : length (take c o ++ bs) ≡ c + length bs = length-append (take c o) bs ∙ ap (λ (k : ℕ). k + length bs) (length-take-le c o h) in
-    ap (take (c + length bs)) (sym (append-assoc (take c o) bs (drop (c + length bs) o))) ∙ take-at (take c o ++ bs) (drop (c + length bs) o) (c + length bs) n
-
-pub take-front : (o bs : List ℕ) → take (length bs) (front o bs) ≡ bs
-unfolding front
-take-front o bs = take-append-seam bs (drop (length bs) o)
-
-pub front-length : (o bs : List ℕ) → length bs ≤ length o → length (front o bs) ≡ length o
-unfolding front
-front-length o bs h = simp (length-append, length-drop) (omega arith)
-
--- ---- what a machine supplies
-
-module _ (M : Machine) where
-  open Machine M using (R, E, A, limit, drops, onPdu, onLong, onLocal)
-
-  -- a reaction leads to a sound record, and what it sends has room in the output
-  pub record Kept (Sound : R → Type 0) (x : Reaction R A) : Type 0 where
-    pub sound : Sound (x .next)
-    pub room : length (x .sends) ≤ 6 + limit
-
-  -- THE LAWS OF A MACHINE: its records stay sound, in a sense that it chooses (refusal 6's tests but for the bytes gathered), and it sends no more than
-  -- a PDU of the limit
-  pub record Laws : Type 1 where
-    pub Sound : R → Type 0
-    pub pdu : (r : R) (p : List ℕ) → Sound r → drops r ≡ false → Kept Sound (onPdu r p)
-    pub long : (r : R) → Sound r → drops r ≡ false → Kept Sound (onLong r)
-    pub local : (r : R) (e : E) (x : Reaction R A) → Sound r → onLocal r e ≡ some x → Kept Sound x
 
 module _ (M : Machine) (L : Laws M) where
   open Machine M using (R, E, A, limit, drops, onPdu, onLong, onLocal)
-
-  -- What holds between calls, from a fresh association on: refusals 6, 3 and 2 never come. Both buffers have room for a PDU of the limit.
-  pub record Ready (l : Lent M) : Type 0 where
-    pub sound : L .Sound (l .state)
-    pub room : 6 + limit ≤ length (l .gather)
-    pub within : l .count ≤ length (l .gather)
-    pub quiet : frame limit (take (l .count) (l .gather)) ≡ short
-    pub dropped : drops (l .state) ≡ true → l .count ≡ 0
-    pub output : 6 + limit ≤ length (l .out)
-
-  pub ready-fresh : (r : R) (g o : List ℕ) → L .Sound r → 6 + limit ≤ length g → 6 + limit ≤ length o → Ready (eng.fresh M r g o)
-  ready-fresh r g o s hg ho = record { sound = s; room = hg; within = omega arith; quiet = frame-nil limit; dropped = λ _. refl; output = ho }
 
   -- WHAT A CALL DOES with a piece p, where t is still to come: of a piece that is not empty it uses a byte or more, and no byte that is not there
   pub record Called (l : Lent M) (p t : List ℕ) (a : Answer M) : Type 0 where
     pub at-most : a .used ≤ length p
     pub at-least : 0 < length p → 0 < a .used
-    pub ready : Ready (a .next)
+    pub ready : Ready M L (a .next)
     pub same : ref.framed M (l .state) ((take (l .count) (l .gather) ++ p) ++ t)
         ≡ after (eng.seen M a) (ref.framed M (a .next .state) (take (a .next .count) (a .next .gather) ++ (drop (a .used) p ++ t)))
 
   -- an event at n bytes, the count gathered among them
-  acted : (l : Lent M) (p t : List ℕ) → Ready l
+  acted : (l : Lent M) (p t : List ℕ) → Ready M L l
       → (n : ℕ) → length (take (l .count) (l .gather)) < n → n ≤ length (take (l .count) (l .gather) ++ p) → n ≤ 6 + limit
       → (x : Reaction R A) → Kept M (L .Sound) x
       → (m : ℕ) (q : List ℕ) → take m (put (l .gather) (l .count) (take (n - l .count) p)) ≡ q
@@ -140,7 +70,7 @@ module _ (M : Machine) (L : Laws M) where
             );
       }
 
-  called-by : (l : Lent M) (p t : List ℕ) → Ready l → (b : Bool) → drops (l .state) ≡ b
+  called-by : (l : Lent M) (p t : List ℕ) → Ready M L l → (b : Bool) → drops (l .state) ≡ b
       → (f : Frame) → frame limit (take (l .count) (l .gather) ++ p) ≡ f → Begins limit (take (l .count) (l .gather)) p f
       → Called l p t (eng.receiveBy M b f l p)
   called-by l p t ok true eb f ef v =
@@ -155,7 +85,8 @@ module _ (M : Machine) (L : Laws M) where
       let fits : l .count + length p ≤ length (l .gather) = omega (arith, length-append (take (l .count) (l .gather)) p, ok .room) in
       let len : length (put (l .gather) (l .count) p) ≡ length (l .gather) = put-length (l .gather) (l .count) p fits in
       let now : take (l .count + length p) (put (l .gather) (l .count) p) ≡ take (l .count) (l .gather) ++ p = take-put (l .gather) (l .count) p (ok .within) in
-      record {
+      rw (take-length p)
+      (record {
         at-most = omega arith;
         at-least = λ h. h;
         ready =
@@ -168,7 +99,7 @@ module _ (M : Machine) (L : Laws M) where
               output = ok .output;
             };
         same = rw (now, drop-length p);
-      }
+      })
   called-by l p t ok false eb long ef (at-six a b c) =
       acted l p t ok 6 a b (omega arith) (onLong (l .state)) (L .long (l .state) (ok .sound) eb) 0 [] refl (framed-step M (l .state) _ ∙ rw (eb, c t))
   called-by l p t ok false eb (whole n) ef (at-end a b c d g) =
@@ -183,14 +114,14 @@ module _ (M : Machine) (L : Laws M) where
       (framed-step M (l .state) _ ∙ rw (eb, g t, pdu))
 
   -- ONE CALL
-  pub called : (l : Lent M) (p t : List ℕ) → Ready l → Called l p t (eng.receive M l p)
+  pub called : (l : Lent M) (p t : List ℕ) → Ready M L l → Called l p t (eng.receive M l p)
   unfolding eng.receive
   called l p t ok =
       called-by l p t ok (drops (l .state)) refl (frame limit (take (l .count) (l .gather) ++ p)) refl
       (begins limit (take (l .count) (l .gather)) p (ok .quiet))
 
   -- what is gathered brings no event
-  pub at-rest : (l : Lent M) → Ready l → ref.framed M (l .state) (take (l .count) (l .gather)) ≡ stop (eng.boxOf M l)
+  pub at-rest : (l : Lent M) → Ready M L l → ref.framed M (l .state) (take (l .count) (l .gather)) ≡ stop (eng.boxOf M l)
   at-rest l ok = framed-short M (l .state) (take (l .count) (l .gather)) (ok .quiet) ∙ by (drops (l .state)) refl
     where
       by : (b : Bool) → drops (l .state) ≡ b → stop (ref.box M (l .state) (cond b [] (take (l .count) (l .gather)))) ≡ stop {T = Entry A} (eng.boxOf M l)
@@ -201,10 +132,10 @@ module _ (M : Machine) (L : Laws M) where
 
   -- the engine came to where the reference came, and is ready
   pub record Done (x : Ran (Entry A) (Lent M)) (y : Ran (Entry A) (ref.Box M)) : Type 0 where
-    pub ready : Ready (x .end)
+    pub ready : Ready M L (x .end)
     pub same : eng.boxed M x ≡ y
 
-  told-by : (l : Lent M) (o : Option (Reaction R A)) → Ready l → ((x : Reaction R A) → o ≡ some x → Kept M (L .Sound) x)
+  told-by : (l : Lent M) (o : Option (Reaction R A)) → Ready M L l → ((x : Reaction R A) → o ≡ some x → Kept M (L .Sound) x)
       → Done (record { trace = eng.seen M (eng.localBy M o l); end = eng.localBy M o l .next }) (ref.localBy M o (eng.boxOf M l))
   told-by l none ok kept = record { ready = ok; same = refl }
   told-by l (some x) ok kept =
@@ -220,7 +151,7 @@ module _ (M : Machine) (L : Laws M) where
       out = front-length (l .out) (x .sends) (omega (arith, ok .output, k .room))
 
       by : (b : Bool) → drops (x .next) ≡ b
-          → Ready (record { state = x .next; count = cond b 0 (l .count); gather = l .gather; out = front (l .out) (x .sends) })
+          → Ready M L (record { state = x .next; count = cond b 0 (l .count); gather = l .gather; out = front (l .out) (x .sends) })
       by true e =
           record { sound = k .sound; room = ok .room; within = omega arith; quiet = frame-nil limit; dropped = λ _. refl; output = omega (arith, out, ok .output) }
       by false e =
@@ -234,5 +165,6 @@ module _ (M : Machine) (L : Laws M) where
           }
 
   -- A LOCAL EVENT
-  pub told : (l : Lent M) (c : One) (e : E) → Ready l → Done (eng.calls M .onEvent l c e) (ref.refItem M (event c e) (eng.boxOf M l))
+  pub told : (l : Lent M) (c : One) (e : E) → Ready M L l → Done (eng.calls M .onEvent l c e) (ref.refItem M (event c e) (eng.boxOf M l))
+  unfolding eng.local
   told l c e ok = told-by l (onLocal (l .state) e) ok (λ x q. L .local (l .state) e x (ok .sound) q)

@@ -2,7 +2,7 @@
 -- Assumes nothing.
 use Prim.Native.Nat.{ℕ, _+_, _≤_, _<_}
 use mathlib.Core.Path.{_≡_, refl, sym, ap, _∙_}
-use mathlib.Core.List.{List, [], _∷_, _++_, append-assoc, append-nil}
+use mathlib.Core.List.{List, [], _∷_, _++_, map, append-assoc, append-nil}
 use lib.ListN.{length, take, drop}
 use Rattle.framing.specs.Runs.{Ran, stop, after, runs}
 use Rattle.framing.specs.Host as host
@@ -11,7 +11,8 @@ use Rattle.framing.specs.Reference as ref
 use Rattle.framing.specs.Reference.{Machine}
 use Rattle.framing.specs.Engine as eng
 use Rattle.framing.specs.Engine.{Lent}
-use Rattle.framing.proofs.Call.{Laws, Ready, ready-fresh, Called, called, at-rest, Done, told}
+use Rattle.framing.proofs.Ready.{Laws, Ready, ready-fresh}
+use Rattle.framing.proofs.Call.{Called, called, at-rest, Done, told}
 use Rattle.framing.proofs.Hosts.{Advances, cut-script, kept-script}
 
 module _ (M : Machine) (L : Laws M) where
@@ -70,7 +71,23 @@ module _ (M : Machine) (L : Laws M) where
       → eng.boxed M (host.script (eng.calls M) is (eng.fresh M r g o)) ≡ ref.reference M is (ref.box M r [])
   from-fresh is r g o s hg ho = cuts is (eng.fresh M r g o) (ready-fresh M L r g o s hg ho) .same
 
+  -- so whatever a reading call makes of the PDUs shown is the same
+  pub read-alike : {X : Type 0} (read : List ℕ → X) (is : List (Item One E)) (r : R) (g o : List ℕ) → L .Sound r → 6 + limit ≤ length g → 6 + limit ≤ length o
+      → map (λ (x : Entry A). read (x .shown)) (host.script (eng.calls M) is (eng.fresh M r g o) .trace)
+      ≡ map (λ (x : Entry A). read (x .shown)) (ref.reference M is (ref.box M r []) .trace)
+  read-alike read is r g o s hg ho =
+      ap (λ (y : Ran (Entry A) (ref.Box M)). map (λ (x : Entry A). read (x .shown)) (y .trace)) (from-fresh is r g o s hg ho)
+
   -- and wherever it leads the engine is ready
   pub reached : (is : List (Item One E)) (r : R) (g o : List ℕ) → L .Sound r → 6 + limit ≤ length g → 6 + limit ≤ length o
       → Ready M L (host.script (eng.calls M) is (eng.fresh M r g o) .end)
   reached is r g o s hg ho = cuts is (eng.fresh M r g o) (ready-fresh M L r g o s hg ho) .ready
+
+  -- and there each call on a piece that is not empty uses a byte or more of it
+  pub uses-a-byte : (is : List (Item One E)) (r : R) (g o : List ℕ) → L .Sound r → 6 + limit ≤ length g → 6 + limit ≤ length o
+      → (p : List ℕ) → 0 < length p
+      → (0 < eng.receive M (host.script (eng.calls M) is (eng.fresh M r g o) .end) p .used)
+      × (eng.receive M (host.script (eng.calls M) is (eng.fresh M r g o) .end) p .used ≤ length p)
+  uses-a-byte is r g o s hg ho p h =
+      let k = called M L (host.script (eng.calls M) is (eng.fresh M r g o) .end) p [] (reached is r g o s hg ho) in
+      (k .at-least h, k .at-most)

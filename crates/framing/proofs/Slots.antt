@@ -8,7 +8,7 @@ use native.Mathlib.Omega.{arith}
 use Rattle.framing.specs.Runs.{Ran, stop, runs, givens}
 use Rattle.framing.specs.Host as host
 use Rattle.framing.specs.Host.{Calls, One, One.one, Item, Item.event, Item.run, feed}
-use Rattle.framing.specs.Slots.{At, at, slotOf, onOne, ownOf, giving, givenTo, put, slots, atSlot}
+use Rattle.framing.specs.Slots.{At, at, slotOf, onOne, ownOf, giving, givenTo, changed, slots, atSlot}
 use Rattle.framing.proofs.Runs.{runs-one}
 use Rattle.framing.proofs.Sim.{View, Same, Alike, simulates, run-fed}
 
@@ -37,7 +37,7 @@ module _ {C : Type 0} (same : C → C → Bool) (same-self : (c : C) → same c 
     abbrev pub Holds : C → (C → D .S) → List (At C T) → D .S → (C → D .S) → Type 0
     Holds j f₀ rest z f = (f j ≡ z) × ((d : C) → same j d ≡ false → f d ≡ f₀ d)
 
-    pub held : (j : C) (f₀ f : C → D .S) (z : D .S) → ((d : C) → same j d ≡ false → f d ≡ f₀ d) → Holds j f₀ [] z (put same D f j z)
+    pub held : (j : C) (f₀ f : C → D .S) (z : D .S) → ((d : C) → same j d ≡ false → f d ≡ f₀ d) → Holds j f₀ [] z (changed same D f j z)
     held j f₀ f z o = (rw (same-self j), λ d e. rw e (o d e))
 
     heard : (j : C) (f₀ : C → D .S) (p : List ℕ) (z : D .S) (f : C → D .S) (rest : List (At C T)) → Holds j f₀ (slots same D .receive f j p .seen ++ rest) z f

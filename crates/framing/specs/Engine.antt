@@ -44,26 +44,36 @@ module _ (M : Machine) where
         next = record { state = x .next; count = k; gather = l .gather; out = front (l .out) (x .sends) };
       }
 
+  -- "Each call uses bytes through the one that brings an event, else the whole piece": so many, with c gathered before them
+  abbrev pub through : Frame → ℕ → List ℕ → ℕ
+  through short c p = length p
+  through long c p = 6 - c
+  through (whole n) c p = n - c
+
   -- "A used byte that isn't dropped goes to the gather buffer behind those gathered; nothing else there changes."
   abbrev pub gathering : Lent → List ℕ → Lent
   gathering l bs = record { state = l .state; count = l .count + length bs; gather = put (l .gather) (l .count) bs; out = l .out }
 
-  -- "Each call uses bytes through the one that brings an event, else the whole piece .. At either the count gathered returns to 0."
+  -- what they bring, u bytes of the piece being gathered: "At either the count gathered returns to 0."
+  abbrev pub brings : Frame → ℕ → Lent → Answer
+  brings short u l = quiet u l
+  brings long u l = acts u (onLong (l .state)) 0 0 l
+  brings (whole n) u l = acts u (onPdu (l .state) (take n (l .gather))) n 0 l
+
   abbrev pub receiveBy : Bool → Frame → Lent → List ℕ → Answer
   receiveBy true f l p = quiet (length p) l
-  receiveBy false short l p = quiet (length p) (gathering l p)
-  receiveBy false long l p = acts (6 - l .count) (onLong (l .state)) 0 0 (gathering l (take (6 - l .count) p))
-  receiveBy false (whole n) l p =
-      let g = gathering l (take (n - l .count) p) in
-      acts (n - l .count) (onPdu (l .state) (take n (g .gather))) n 0 g
+  receiveBy false f l p = let u = through f (l .count) p in brings f u (gathering l (take u p))
 
   unfoldable pub receive : Lent → List ℕ → Answer
   receive l p = receiveBy (drops (l .state)) (frame limit (take (l .count) (l .gather) ++ p)) l p
 
-  -- a local event uses no bytes; where bytes are dropped from now on, none are gathered
+  -- a local event uses no bytes, and nothing comes of a refused one; where bytes are dropped from now on, none are gathered
   abbrev pub localBy : Option (Reaction R A) → Lent → Answer
   localBy none l = quiet 0 l
   localBy (some x) l = acts 0 x 0 (cond (drops (x .next)) 0 (l .count)) l
+
+  unfoldable pub local : Lent → E → Answer
+  local l e = localBy (onLocal (l .state) e) l
 
   -- what the host sees of an answer: it reads the PDU shown and the bytes sent from the two buffers
   abbrev pub seenBy : Option A → Answer → List (Entry A)
@@ -78,7 +88,7 @@ module _ (M : Machine) where
       record {
         S = Lent;
         receive = λ l c p. let a = receive l p in record { used = a .used; seen = seen a; next = a .next };
-        onEvent = λ l c e. let a = localBy (onLocal (l .state) e) l in record { trace = seen a; end = a .next };
+        onEvent = λ l c e. let a = local l e in record { trace = seen a; end = a .next };
       }
 
   -- ---- from the engine to the reference

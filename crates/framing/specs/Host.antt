@@ -36,7 +36,7 @@ pub record Heard (T S : Type 0) : Type 0 where
   pub seen : List T
   pub next : S
 
--- S is all that is lent to a call and handed on to the next one; a refused call leaves it as it was
+-- S is all that is lent to a call, and is lent untouched to the next; a refused call leaves it as it was, and nothing is seen of it
 pub record Calls (C E T : Type 0) : Type 1 where
   pub S : Type 0
   pub receive : S → C → List ℕ → Heard T S
@@ -45,7 +45,7 @@ pub record Calls (C E T : Type 0) : Type 1 where
 module _ {C E T : Type 0} (D : Calls C E T) where
   open Calls D using (S, receive, onEvent)
 
-  -- ---- the host that cuts: it offers a piece, then what was not used of it, and so on, before it goes on to the next piece
+  -- ---- the host that cuts: "offer unused bytes again before the next local event", and before the next piece
 
   abbrev pub feedBy : C → (List ℕ → S → Ran T S) → List ℕ → S → Ran T S
   feedBy c go [] s = stop s

@@ -1,4 +1,5 @@
--- The reference: what a machine does with a script when each run of bytes is framed at once. With Framing, this is what a reader must believe.
+-- The reference: what a machine does with a script "when the whole run, behind the bytes already gathered, is framed at once and refused events are left
+-- out" (demand 3). With Framing, this is what a reader must believe.
 use Prim.Native.Nat.{ℕ}
 use mathlib.Core.Bool.{Bool, true, false, cond}
 use mathlib.Core.Option.{Option, none, some}
@@ -17,8 +18,9 @@ pub record Reaction (R A : Type 0) : Type 0 where
   pub sends : List ℕ
   pub shows : Bool
 
--- R: the association's record but for the bytes gathered. E: local events. A: what a host is told, the action and the state after.
--- drops: received bytes are used and dropped ("In Sta1 and Sta4 ..", "the association is deaf"). onLocal: none where the event is refused.
+-- R: the association's record, but for the count gathered. E: local events. A: what a host is told, the action and the state after.
+-- drops: bytes are used and dropped ("In Sta1 and Sta4", and when "the association is deaf"). onPdu: a whole PDU came, of at most 6 + limit bytes.
+-- onLong: a length above the limit came. onLocal: a local event, none where it is refused.
 pub record Machine : Type 1 where
   pub R : Type 0
   pub E : Type 0
@@ -40,7 +42,7 @@ module _ (M : Machine) where
   abbrev pub box : R → List ℕ → Box
   box r g = record { state = r; got = g }
 
-  -- nothing is gathered where bytes are dropped
+  -- nothing is gathered where bytes are dropped: in Sta1, in Sta4 and when deaf
   abbrev pub holding : R → List ℕ → Box
   holding r g = box r (cond (drops r) [] g)
 

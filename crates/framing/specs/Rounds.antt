@@ -4,10 +4,10 @@ use mathlib.Core.List.{List}
 use lib.ListN.{length}
 
 -- A body works on a list of bytes, and may call itself on what it leaves of it.
-module _ {X : Type 0} (none : List ℕ → X) (body : (List ℕ → X) → List ℕ → X) where
-  -- at most k rounds, and `none` where they are used up
+module _ {X : Type 0} (spent : List ℕ → X) (body : (List ℕ → X) → List ℕ → X) where
+  -- at most k rounds, and `spent` where they are used up
   unfoldable pub rounds : ℕ → List ℕ → X
-  rounds zero s = none s
+  rounds zero s = spent s
   rounds (suc k) s = body (rounds k) s
 
   -- As many rounds as there are bytes. A body that leaves fewer bytes at each round never uses them up: what to believe is the equation without them,

@@ -39,15 +39,15 @@ module _ {C : Type 0} (same : C → C → Bool) where
 
   module _ {E T : Type 0} (D : Calls One E T) where
     -- the engines, that of slot c changed
-    abbrev pub put : (C → D .S) → C → D .S → C → D .S
-    put f c s d = cond (same c d) s (f d)
+    abbrev pub changed : (C → D .S) → C → D .S → C → D .S
+    changed f c s d = cond (same c d) s (f d)
 
     abbrev pub slots : Calls C E (At C T)
     slots =
         record {
           S = C → D .S;
-          receive = λ f c p. let a = D .receive (f c) one p in record { used = a .used; seen = map (at c) (a .seen); next = put f c (a .next) };
-          onEvent = λ f c e. let a = D .onEvent (f c) one e in record { trace = map (at c) (a .trace); end = put f c (a .end) };
+          receive = λ f c p. let a = D .receive (f c) one p in record { used = a .used; seen = map (at c) (a .seen); next = changed f c (a .next) };
+          onEvent = λ f c e. let a = D .onEvent (f c) one e in record { trace = map (at c) (a .trace); end = changed f c (a .end) };
         }
 
     -- a run of them all, looked at from slot k
