@@ -13,7 +13,7 @@ use Rattle.names.specs.Name.{nameOk}
 use Rattle.names.specs.Title.{titleOk}
 use Rattle.items.specs.Items.{step, walkIn, walk, filled, bodies, keeps}
 use Rattle.items.specs.Wire.{itemBytes}
-use Rattle.judging.specs.Contents.{subGood, subNext, good20H, one, transferOk, good21H, good50H, contextGood, topGood, topNext, ids, itemsOk, maximumIn}
+use Rattle.contents.specs.Contents.{subGood, subNext, good20H, one, transferOk, good21H, good50H, contextGood, topGood, topNext, ids, itemsOk, maximumIn}
 use Rattle.judging.specs.Data.{pdvStep, pdvsIn, pdvs, pdvOk, pdvsOk}
 use Rattle.judging.specs.Values.{rejectReasons, rejectOk, abortOk}
 use Rattle.judging.specs.Pdu.{whole, requestOk, acceptOk, rejectPduOk, dataOk, releaseOk, abortPduOk, validAs, kindOf, acceptable, maximumOf}

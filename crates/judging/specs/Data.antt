@@ -7,7 +7,7 @@ use lib.ListN.{length, take, drop, getD}
 use lib.Dec.{leb, eqb}
 use Rattle.laws.specs.Lists.{all}
 use Rattle.octets.specs.Octets.{be32}
-use Rattle.judging.specs.Contents.{odd}
+use Rattle.contents.specs.Contents.{odd}
 
 pub record Pdv : Type 0 where
   pub id : ℕ

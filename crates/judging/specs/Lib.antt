@@ -1,4 +1,4 @@
-pub mod Contents
 pub mod Data
 pub mod Values
 pub mod Pdu
+pub mod Inner

@@ -6,7 +6,7 @@ use lib.ListN.{length, take, drop, getD}
 use lib.Dec.{leb, eqb}
 use Rattle.octets.specs.Octets.{be16, be32}
 use Rattle.names.specs.Title.{titleOk}
-use Rattle.judging.specs.Contents.{odd, itemsOk, maximumIn}
+use Rattle.contents.specs.Contents.{odd, itemsOk, maximumIn}
 use Rattle.judging.specs.Data.{pdvsOk}
 use Rattle.judging.specs.Values.{rejectOk, abortOk}
 
