@@ -1,0 +1,4 @@
+pub mod Calls
+pub mod Data
+pub mod Refused
+pub mod ShutOut
