@@ -65,6 +65,15 @@ module _ (a : Assoc) (g o : List ℕ) (e : Local) where
       by true q = let h = eqb-true _ _ q in rw (local-done a g o e h, h)
       by false q = rw (local-refused a g o e (eqb-false _ _ q))
 
+  -- it uses no bytes
+  pub local-used : localOf a g o e .answer .told .used ≡ 0
+  unfolding refusedWith
+  local-used = by (eqb (localRefusal a g o e) 0) refl
+    where
+      by : (b : Bool) → eqb (localRefusal a g o e) 0 ≡ b → localOf a g o e .answer .told .used ≡ 0
+      by true q = rw (local-done a g o e (eqb-true _ _ q))
+      by false q = rw (local-refused a g o e (eqb-false _ _ q))
+
   pub local-unchanged : (localOf a g o e .answer .told .refusal ≡ 0 → ⊥) → localOf a g o e ≡ call (refusedWith (localOf a g o e .answer .told .refusal) a) g o
   local-unchanged n = local-refused a g o e (λ q. n (local-refusal ∙ q)) ∙ ap (λ (k : ℕ). call (refusedWith k a) g o) (sym local-refusal)
 

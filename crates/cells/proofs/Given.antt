@@ -109,6 +109,25 @@ request-roomy a e room h =
     ap (λ (n : ℕ). cond (eqb (localAction a e) 0) 1 n)
     (roomy (formOf (localAction a e) (sendsOf a e)) room (form-small (localAction a e) (sendsOf a e) (sends-small a e)) h)
 
+-- and a local event gets no other than 1, 4 and 5
+form-known : (f : Form) → f .most ≤ 16384 → among (refusalOf f 16390) (0 ∷ 1 ∷ 4 ∷ 5 ∷ []) ≡ true
+unfolding refusalOf among
+form-known f m = by (f .good) (leb (length (f .pdu) - 6) (f .most)) refl
+  where
+    by : (x y : Bool) → leb (length (f .pdu) - 6) (f .most) ≡ y
+        → among (cond x (cond y (cond (leb (length (f .pdu)) 16390) 0 2) 5) 4) (0 ∷ 1 ∷ 4 ∷ 5 ∷ []) ≡ true
+    by true true q = rw (le-leb (length (f .pdu)) 16390 (omega (arith, leb-true (length (f .pdu) - 6) (f .most) q)))
+    by true false q = refl
+    by false y q = refl
+
+pub request-known : (a : Assoc) (e : Local) → among (requestRefusal a e 16390) (0 ∷ 1 ∷ 4 ∷ 5 ∷ []) ≡ true
+unfolding requestRefusal among
+request-known a e = by (eqb (localAction a e) 0)
+  where
+    by : (b : Bool) → among (cond b 1 (refusalOf (formOf (localAction a e) (sendsOf a e)) 16390)) (0 ∷ 1 ∷ 4 ∷ 5 ∷ []) ≡ true
+    by true = refl
+    by false = form-known (formOf (localAction a e) (sendsOf a e)) (form-small (localAction a e) (sendsOf a e) (sends-small a e))
+
 -- ---- what is done
 sent-by : (action n : ℕ) (a : Assoc) (s : Sends) → formOf action s .good ≡ true → doing action n a (inputOf s) .sends ≡ formOf action s .pdu
 unfolding doing

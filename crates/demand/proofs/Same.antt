@@ -93,7 +93,7 @@ heard-same : (x : eng.Answer upper) → x .next .state .gathered ≡ 0 → eng.s
 unfolding heard
 heard-same x z e = λ i. record { used = x .used; seen = sym e i; next = next-same x z i }
 
-hears : (s : Lent) (c : One) (p : List ℕ) → At s → heardBy engine (machine .receive s c p) ≡ eng.calls upper .receive (engine s) c p
+pub hears : (s : Lent) (c : One) (p : List ℕ) → At s → heardBy engine (machine .receive s c p) ≡ eng.calls upper .receive (engine s) c p
 hears s c p r =
     ap asHeard (received (s .assoc) (s .gather) p (s .out) (receive-answered (s .assoc) (s .gather) (s .out) r))
     ∙ heard-same (eng.receive upper (engine s) p) (called upper upper-laws (engine s) p [] r .ready .sound .nothing) (seen-same (engine s) p (r .sound .sound))
@@ -205,7 +205,7 @@ module _ (s : Lent) (r : At s) (e : Local) where
       let n : localRefusal (s .assoc) (s .gather) (s .out) e ≡ 0 → ⊥ = λ z. eqb-false _ _ q (sym refused-same ∙ z) in
       ap asRan (local-refused (s .assoc) (s .gather) (s .out) e n) ∙ refused-ran (localRefusal (s .assoc) (s .gather) (s .out) e)
 
-does : (s : Lent) (c : One) (e : Local) → At s → ranBy engine (machine .onEvent s c e) ≡ eng.calls upper .onEvent (engine s) c e
+pub does : (s : Lent) (c : One) (e : Local) → At s → ranBy engine (machine .onEvent s c e) ≡ eng.calls upper .onEvent (engine s) c e
 unfolding eng.local
 does s c e r = does-by s r e (eqb (requestRefusal (withCount (s .assoc) 0) e 16390) 0) refl
 
