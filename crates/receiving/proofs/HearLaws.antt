@@ -143,7 +143,7 @@ module _ (a : Assoc) (g p o : List ℕ) where
       unfolding eng.receive
       by short q u (no-event l) = (
         omega (arith, lg, length-append (take (a .gathered) g) p),
-        λ r er. rw er (sym (went (sym en ∙ zn) ∙ rw (hear, q) (short-is u))),
+        λ r er. rw er (sym (went (sym en ∙ zn) ∙ rw (hear, q, take-all (length p) p (omega arith)) (short-is u))),
       )
       by long q u (at-six l m f) = λ o′ r D.
           (acted (onEvent invalid a long) (long-bare a) (w .used) 0 g′ o′ r D
