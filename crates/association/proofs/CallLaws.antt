@@ -23,7 +23,7 @@ use Rattle.association.specs.Refusals.{refusedWith}
 use Rattle.association.specs.Events.{Local, Sends, Sends.own, Sends.bad, Sends.given, eventOf, invalid, numberOf, sendsOf}
 use Rattle.association.specs.Deeds.{Input.whole, Input.long, entering, after}
 use Rattle.association.specs.Machine.{Seen, doing, onEvent, onLocal, localAction, inputOf}
-use Rattle.association.specs.Calls.{Call, call, withCount, receiveRefusal, receiveOf, localRefusal, localOf, Given, Given.piece, Given.event, refusalTo, callOf}
+use Rattle.association.specs.Calls.{Call, call, withCount, receiveRefusal, receiveOf, localRefusal, localOf, Given, Given.piece, Given.local, refusalTo, callOf}
 use Rattle.association.specs.Steps.{quietOf, tellOf}
 use Rattle.association.proofs.Sound.{Sound, Fine, not-broken, sound-of, quiet-of, good-length}
 use Rattle.association.proofs.Keeps.{sound-pdu, sound-long, onLocal-sound, local-sent, pdu-ten, long-ten}
@@ -32,7 +32,7 @@ use Rattle.association.proofs.Ways.{Open, opened, receive-refused, way-
 -- ---- a refused call
 pub refused-unchanged : (a : Assoc) (g o : List ℕ) (x : Given) → (refusalTo a g o x ≡ 0 → ⊥) → callOf a g o x ≡ call (refusedWith (refusalTo a g o x) a) g o
 refused-unchanged a g o (piece p) n = receive-refused a g p o n
-refused-unchanged a g o (event e) n = local-refused a g o e n
+refused-unchanged a g o (local e) n = local-refused a g o e n
 
 -- ---- an answered call
 -- what an answered call leaves: the answer has no refusal; the output has the bytes sent in front; the gather buffer has the bytes used behind those gathered, or is as it
@@ -208,7 +208,7 @@ left-local a g o e z =
 
 left : (a : Assoc) (g o : List ℕ) (x : Given) → refusalTo a g o x ≡ 0 → Left a g o (callOf a g o x)
 left a g o (piece p) z = left-receive a g p o z
-left a g o (event e) z = left-local a g o e z
+left a g o (local e) z = left-local a g o e z
 
 -- ---- what follows of the buffers
 out-beyond : {a : Assoc} {g o : List ℕ} {c : Call} → Left a g o c → drop (c .answer .told .sent) (c .out) ≡ drop (c .answer .told .sent) o

@@ -26,7 +26,7 @@ use Rattle.association.specs.Events.{Local, Sends, Sends.own, Sends.bad,
 use Rattle.association.specs.Deeds.{Input, Input.whole, Input.long, Input.bare, Input.contents, brings, entering, after, requestorAfter, sentBy, tenBy, abortBy}
 use Rattle.association.specs.Machine.{Seen, doing, onEvent, localCell, localAction, inputOf, formOf, requestRefusal, onLocal, upper}
 use Rattle.association.proofs.Sound.{Sound}
-use Rattle.association.proofs.Tables.{stays-timed, four-from-1, local-leaves-13, invalid-to-13, hearing, heard-acts, invalid-acts}
+use Rattle.association.proofs.Tables.{stays-timed, four-from-1, local-leaves-13, invalid-to-13, hearing, heard-acts, invalid-acts, LocalCell, local-cell}
 use Rattle.association.proofs.TenLaws.{ten-length}
 
 never : {A : Type 0} (b : Bool) → b ≡ true → b ≡ false → A
@@ -125,17 +125,8 @@ module _ (a : Assoc) (S : Sound a) (h : dropping a ≡ false) where
 
 -- ---- a local event
 module _ (a : Assoc) (S : Sound a) (number : ℕ) (f : 0 < localCell number (a .state)) where
-  is-local : isReceived number ≡ false
-  unfolding localCell
-  is-local = by (isReceived number) refl f
-    where
-      by : (b : Bool) → isReceived number ≡ b → 0 < cond b 0 (cellOf number (a .state)) → isReceived number ≡ false
-      by true e l = absurd (omega arith)
-      by false e l = e
-
-  is-cell : localCell number (a .state) ≡ cellOf number (a .state)
-  unfolding localCell
-  is-cell = rw is-local
+  L : LocalCell number (a .state)
+  L = local-cell number (a .state) f
 
   dropped-1 : a .state ≡ 1 → a .gathered ≡ 0
   unfolding dropping
@@ -153,15 +144,14 @@ module _ (a : Assoc) (S : Sound a) (number : ℕ) (f : 0 < localCell number (a .
   sound-bare : Sound (after (cellOf number (a .state)) a (brings (cellOf number (a .state)) a bare))
   unfolding next
   sound-bare =
-      let f′ : 0 < cellOf number (a .state) = omega (arith, is-cell) in
-      sound-after a S number f′ _ (S .few) (λ n. dropped-1 (four-from-1 number (a .state) f′ false (a .requestor) n))
-      (λ d n. absurd (n (local-leaves-13 number (a .state) f′ is-local (S .deaf d) false (a .requestor))))
+      sound-after a S number (L .acts) _ (S .few) (λ n. dropped-1 (four-from-1 number (a .state) (L .acts) false (a .requestor) n))
+      (λ d n. absurd (n (local-leaves-13 number (a .state) (L .acts) (L .not-received) (S .deaf d) false (a .requestor))))
 
   pub sound-local : (event : ℕ) (i : Sends) → Sound (doing (localCell number (a .state)) event a (inputOf i) .next)
   unfolding doing
-  sound-local event own = rw is-cell sound-bare
-  sound-local event bad = rw is-cell sound-bare
-  sound-local event (given g) = rw is-cell sound-bare
+  sound-local event own = rw (L .cell) sound-bare
+  sound-local event bad = rw (L .cell) sound-bare
+  sound-local event (given g) = rw (L .cell) sound-bare
 
 pub onLocal-sound : (a : Assoc) → Sound a → (e : Local) → 0 < localAction a e → Sound (onLocal a e .next)
 unfolding onLocal

@@ -17,6 +17,7 @@ use Rattle.table.proofs.Right.{filled, each-filled, heard-filled, hears}
 use Rattle.association.specs.declared.Assoc.{Assoc}
 use Rattle.association.specs.Record.{dropping, timed}
 use Rattle.association.specs.Events.{eventOfKind, invalid}
+use Rattle.association.specs.Machine.{localCell}
 
 -- a test for both answers of AE-6 and for both ends
 abbrev ways : (Bool → Bool → Bool) → Bool
@@ -123,3 +124,17 @@ module _ (a : Assoc) (low : 1 ≤ a .state) (high : a .state < 14) (h : dropping
   pub invalid-acts : 0 < cellOf invalid (a .state)
   unfolding isReceived among
   invalid-acts = heard-filled invalid (a .state) (omega arith) (omega arith) low high refl (hearing a h .0)
+
+-- ---- a local event that has an action: its number is no received row's, and the action is its cell's
+pub record LocalCell (number state : ℕ) : Type 0 where
+  pub not-received : isReceived number ≡ false
+  pub cell : localCell number state ≡ cellOf number state
+  pub acts : 0 < cellOf number state
+
+pub local-cell : (number state : ℕ) → 0 < localCell number state → LocalCell number state
+unfolding localCell
+local-cell number state f = by (isReceived number) refl f
+  where
+    by : (b : Bool) → isReceived number ≡ b → 0 < cond b 0 (cellOf number state) → LocalCell number state
+    by true e l = absurd (omega arith)
+    by false e l = record { not-received = e; cell = rw e; acts = l }

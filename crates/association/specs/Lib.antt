@@ -5,3 +5,4 @@ pub mod Deeds
 pub mod Machine
 pub mod Calls
 pub mod Steps
+pub mod Cells
