@@ -52,7 +52,7 @@ module _ (b : List ℕ) (g : good20H b ≡ true) where
 
 -- ---- a good 21H
 module _ (b : List ℕ) (g : good21H b ≡ true) where
-  parts-21 : (leb 4 (length b) && (odd (getD b 0 0) && (leb (getD b 2 0) 4 && transferOk (walk (drop 4 b))))) ≡ true
+  parts-21 : (leb 4 (length b) && (odd (getD b 0 0) && (leb (getD b 2 0) 4 && transferOk (getD b 2 0) (walk (drop 4 b))))) ≡ true
   unfolding good21H
   parts-21 = g
 

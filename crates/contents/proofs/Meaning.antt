@@ -178,7 +178,7 @@ module _ (k : ℕ) (x : eqb 0x10 k ≡ false) (y : eqb k 0x50 ≡ false) (st t :
           record {
             applications = no-more t 0x10 b w p ∙ r .applications;
             contexts = rw (no-more t k b w e) (r .contexts);
-            users = no-more t 0x50 b w f ∙ r .users
+            users = no-more t 0x50 b w f ∙ r .users;
           }
 
 module _ (k : ℕ) (x : eqb 0x10 k ≡ false) (y : eqb k 0x50 ≡ false) where
