@@ -116,10 +116,14 @@ module _ (P : Made → Type 0) (bytes : (s : Lent) (p : List ℕ) → At s → P
         each-append P (x .trace) (y .trace) (k .0) (each-script (k .1) w)
 
 module _ (is : List (Item One Local)) (g o : List ℕ) (hg : 16390 ≤ length g) (ho : 16390 ≤ length o) where
+  -- the host that cuts is a host, whatever it looks at
+  pub a-host : {T : Type 0} (look : Made → List T) → HostedScript (looking look) (fresh g o) is (host.script (looking look) is (fresh g o))
+  a-host look = cut-script (looking look) At (advances look) is (fresh g o) (at-fresh g o hg ho)
+
   -- by any host
   pub every-call : {x : Ran Made Lent} → HostedScript every (fresh g o) is x → Each Held (x .trace)
   every-call w = each-script Held (λ s p r. held-received s r p) (λ s e r. held-given s r e) (at-fresh g o hg ho) w
 
   -- by the host that cuts
   pub every-cut-call : Each Held (host.script every is (fresh g o) .trace)
-  every-cut-call = every-call (cut-script every At (advances (λ m. m ∷ [])) is (fresh g o) (at-fresh g o hg ho))
+  every-cut-call = every-call (a-host (λ m. m ∷ []))

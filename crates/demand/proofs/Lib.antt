@@ -3,3 +3,5 @@ pub mod Demand
 pub mod Every
 pub mod Looked
 pub mod Refused
+pub mod Data
+pub mod ShutOut
