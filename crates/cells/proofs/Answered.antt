@@ -1,29 +1,27 @@
 -- What a call is where it is refused, and where it is answered; and that an answered call leaves a record that is fine over the gather buffer as left.
 -- Assumes nothing.
-use Prim.Native.Nat.{ℕ, _+_, _-_, _≤_, _<_}
-use mathlib.Core.Path.{_≡_, refl, sym, ap, _∙_, subst}
+use Prim.Native.Nat.{ℕ, _≤_}
+use mathlib.Core.Path.{_≡_, refl, sym, _∙_}
 use mathlib.Core.Bool.{Bool, true, false, cond}
-use mathlib.Core.Option.{Option, none, some}
-use mathlib.Core.List.{List, [], _∷_, _++_}
+use mathlib.Core.List.{List, [], _++_}
 use native.Mathlib.Omega.{arith}
-use lib.Dec.{eqb, ltb}
-use lib.ListN.{length, take, drop, replicate}
-use borrow.Author.Tests.{eq-eqb, ne-eqb, eqb-true, eqb-false}
+use lib.Dec.{eqb}
+use lib.ListN.{length, take, replicate}
+use borrow.Author.Tests.{ne-eqb, eqb-true, eqb-false}
 use Rattle.octets.specs.Put.{front}
 use Rattle.framing.specs.Framing.{Frame, frame, Frame.short, Frame.long, Frame.whole}
 use Rattle.framing.specs.Engine as eng
 use Rattle.framing.proofs.Ready.{Ready}
 use Rattle.framing.proofs.Call.{called}
-use Rattle.table.specs.Actions.{nextOf}
 use Rattle.association.specs.declared.Assoc.{Assoc}
 use Rattle.association.specs.Record.{dropping, strayDeaf, mistimed, markedIdle}
 use Rattle.association.specs.Refusals.{recordRefusal, refusedWith}
 use Rattle.association.specs.Events.{Local}
 use Rattle.association.specs.Machine.{upper, requestRefusal, onLocal}
-use Rattle.association.specs.Calls.{Call, call, unless, withCount, lentOf, heard, receiveRefusal, receiveOf, localRefusal, localOf}
+use Rattle.association.specs.Calls.{Call, call, withCount, lentOf, heard, receiveRefusal, receiveOf, localRefusal, localOf}
 use Rattle.cells.proofs.Sound.{Sound}
 use Rattle.cells.proofs.Kept.{upper-laws}
-use Rattle.cells.proofs.Fine.{Fine, Receives, receives-of, ready-of, drops-same}
+use Rattle.cells.proofs.Fine.{Fine, receives-of, ready-of, drops-same}
 
 -- ---- receiving
 module _ (a : Assoc) (g p o : List ℕ) where

@@ -2,20 +2,20 @@
 -- bytes 2 does not.
 -- Assumes nothing.
 use Prim.Native.Nat.{ℕ, _+_, _≤_, _<_}
-use mathlib.Core.Path.{_≡_, refl, sym, ap, _∙_}
-use mathlib.Core.Bool.{Bool, true, false, cond, not, _&&_, _||_}
-use mathlib.Core.List.{List, []}
+use mathlib.Core.Path.{_≡_, refl, sym, _∙_}
+use mathlib.Core.Bool.{Bool, true, false, cond, _&&_, _||_}
+use mathlib.Core.List.{List}
 use native.Mathlib.Omega.{arith}
 use native.Mathlib.Decide.{decLt}
 use lib.Dec.{eqb, ltb, leb}
 use lib.ListN.{length, take}
 use lib.Seq.{length-take-le}
-use borrow.Author.Tests.{lt-ltb, le-ltb, lt-leb, le-leb, ltb-true, ltb-false, leb-false, eqb-true, eqb-false}
+use borrow.Author.Tests.{le-ltb, lt-leb, le-leb, ltb-false, leb-false, eqb-true, eqb-false}
 use Rattle.framing.specs.Framing.{lengthField, frame, Frame.short}
 use Rattle.framing.proofs.Framing.{frame-few, frame-part, no-event-yet, no-event-fits, length-take-field}
 use Rattle.framing.proofs.Ready.{Ready}
 use Rattle.association.specs.declared.Assoc.{Assoc}
-use Rattle.association.specs.Record.{dropping, timed, strayDeaf, mistimed, markedIdle, overfull, badLength, broken, brokenOver}
+use Rattle.association.specs.Record.{dropping, strayDeaf, mistimed, markedIdle, overfull, badLength, broken, brokenOver}
 use Rattle.association.specs.Refusals.{recordRefusal}
 use Rattle.association.specs.Machine.{upper}
 use Rattle.association.specs.Calls.{withCount, lentOf, receiveRefusal}

@@ -1,22 +1,19 @@
 -- A local event that gets none of 1, 4, 5 and 2: its cell is filled, what it sends has room, and the record stays sound.
 -- Assumes nothing.
-use Prim.Native.Nat.{ℕ, _+_, _-_, _≤_, _<_}
-use mathlib.Core.Path.{_≡_, refl, sym, ap, _∙_}
+use Prim.Native.Nat.{ℕ, _-_, _≤_, _<_}
+use mathlib.Core.Path.{_≡_, refl, ap}
 use mathlib.Core.Bool.{Bool, true, false, cond}
-use mathlib.Core.List.{List, [], _∷_}
+use mathlib.Core.List.{[], _∷_}
 use native.Mathlib.Omega.{arith}
 use lib.Dec.{eqb, leb}
 use lib.ListN.{length}
-use borrow.Author.Tests.{eq-eqb, ne-eqb, eqb-true, eqb-false, le-leb, lt-leb, leb-true}
+use borrow.Author.Tests.{eq-eqb, ne-eqb, le-leb, leb-true}
 use Rattle.laws.specs.Lists.{among}
 use Rattle.writing.specs.Form.{Form, refusalOf, rqForm, acForm, rejectForm, dataForm, mostOf}
-use Rattle.writing.specs.Ten.{tenOf}
 use Rattle.table.specs.Table.{cellOf, isReceived}
 use Rattle.association.specs.declared.Assoc.{Assoc}
 use Rattle.association.specs.Events.{Local, Sends, plainSends, numberOf, sendsOf}
 use Rattle.association.specs.Events.{Local.plain, Local.confirm, Local.accept, Local.reject, Local.send, Sends.own, Sends.bad, Sends.given}
-use Rattle.association.specs.Deeds.{Input}
-use Rattle.association.specs.Deeds.{Input.bare, Input.contents}
 use Rattle.association.specs.Machine.{localCell, localAction, inputOf, formOf, requestRefusal, doing, onEvent, onLocal}
 use Rattle.cells.proofs.Sound.{Sound, sound-bare, sound-contents}
 

@@ -1,10 +1,10 @@
 -- The machine of Table 9-10 keeps the laws that cut independence asks of a machine: its records stay sound, and what it sends has room.
 -- Assumes nothing.
-use Prim.Native.Nat.{ℕ, zero, suc, _+_, _≤_, _<_}
-use mathlib.Core.Path.{_≡_, refl, sym, ap, _∙_, subst}
+use Prim.Native.Nat.{ℕ, zero, suc, _≤_}
+use mathlib.Core.Path.{_≡_, refl, subst}
 use mathlib.Core.Bool.{Bool, true, false, cond}
-use mathlib.Core.Option.{Option, none, some}
-use mathlib.Core.List.{List, []}
+use mathlib.Core.Option.{none, some}
+use mathlib.Core.List.{List}
 use native.Mathlib.Omega.{arith}
 use lib.Dec.{eqb}
 use lib.ListN.{length}
@@ -17,7 +17,7 @@ use Rattle.association.specs.declared.Brings.{Brings}
 use Rattle.association.specs.Record.{idle, dropping, timed, strayDeaf, mistimed, markedIdle}
 use Rattle.association.specs.Events.{Local, Sends, sendsOf, eventOf, invalid}
 use Rattle.association.specs.Events.{Sends.own, Sends.bad, Sends.given}
-use Rattle.association.specs.Deeds.{Input, brings, after, entering}
+use Rattle.association.specs.Deeds.{after, entering}
 use Rattle.association.specs.Deeds.{Input.whole, Input.long}
 use Rattle.association.specs.Machine.{Seen, inputOf, doing, onEvent, onLocal, requestRefusal, upper}
 use Rattle.cells.proofs.Sound.{Sound, sound-pdu, sound-long}

@@ -1,14 +1,12 @@
 -- What a local event makes of the record: it keeps the bytes gathered, unless it enters Sta1.
 -- Assumes nothing.
-use Prim.Native.Nat.{ℕ, _≤_, _<_}
+use Prim.Native.Nat.{ℕ, _<_}
 use mathlib.Core.Path.{_≡_, refl, sym, ap, _∙_}
 use mathlib.Core.Bool.{Bool, true, false, cond, _||_}
-use mathlib.Core.List.{List, []}
+use mathlib.Core.List.{List}
 use native.Mathlib.Omega.{arith}
 use lib.Dec.{eqb}
-use lib.ListN.{length, take}
 use borrow.Author.Tests.{eq-eqb, ne-eqb, eqb-true, eqb-false}
-use Rattle.framing.specs.Framing.{frame, Frame.short}
 use Rattle.framing.proofs.Framing.{frame-nil}
 use Rattle.table.specs.Table.{cellOf}
 use Rattle.table.specs.Actions.{nextOf, artimOf}
@@ -16,13 +14,13 @@ use Rattle.association.specs.declared.Assoc.{Assoc}
 use Rattle.association.specs.declared.Brings.{Brings}
 use Rattle.association.specs.Record.{dropping}
 use Rattle.association.specs.Events.{Local, Sends, numberOf, sendsOf}
-use Rattle.association.specs.Events.{Local.plain, Local.confirm, Local.accept, Local.reject, Local.send, Sends.own, Sends.bad, Sends.given}
-use Rattle.association.specs.Deeds.{Input, brings, after, entering, requestorAfter}
+use Rattle.association.specs.Events.{Sends.own, Sends.bad, Sends.given}
+use Rattle.association.specs.Deeds.{brings, after, entering, requestorAfter}
 use Rattle.association.specs.Machine.{localAction, inputOf, doing, onLocal, requestRefusal}
 use Rattle.association.specs.Calls.{withCount}
 use Rattle.cells.proofs.Moves.{not-4}
-use Rattle.cells.proofs.Sound.{Sound, Hears, hears-of, never}
-use Rattle.cells.proofs.Given.{OwnCell, cell-own, sound-local}
+use Rattle.cells.proofs.Sound.{Sound, hears-of, never}
+use Rattle.cells.proofs.Given.{cell-own, sound-local}
 use Rattle.cells.proofs.Fine.{Fine}
 
 -- what any local event brings

@@ -19,7 +19,7 @@ use Rattle.association.specs.Events.{plainSends, transportIndication, associate
 use Rattle.association.specs.Deeds.{tenBy}
 use Rattle.association.specs.Machine.{localCell, requestRefusal}
 use Rattle.association.specs.Calls.{localRefusal}
-use Rattle.cells.specs.Cells.{Engine, Did, Cell, Demand2}
+use Rattle.cells.specs.Cells.{Engine, Did, Demand2}
 use Rattle.cells.specs.ShutOut.{RefusesAll, SameAction, RecordUntouched}
 
 -- a fresh association, with no byte lent: neither event is refused

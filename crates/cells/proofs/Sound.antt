@@ -1,24 +1,23 @@
 -- What refusal 6 tests of a record, but for the bytes gathered, and that every action at a filled cell keeps it.
 -- Assumes nothing.
-use Prim.Native.Nat.{ℕ, _+_, _≤_, _<_}
+use Prim.Native.Nat.{ℕ, _≤_, _<_}
 use mathlib.Core.Path.{_≡_, refl, sym, ap, _∙_}
 use mathlib.Core.Bool.{Bool, true, false, cond, not, _&&_, _||_, Bool·beq}
-use mathlib.Core.List.{List, [], _∷_}
+use mathlib.Core.List.{List}
 use native.Mathlib.Omega.{arith}
-use lib.Dec.{eqb, ltb, leb}
-use borrow.Author.Tests.{eq-eqb, ne-eqb, eqb-true, eqb-false, lt-ltb, le-ltb, ltb-true, ltb-false}
-use Rattle.laws.specs.Lists.{any}
+use lib.Dec.{eqb, ltb}
+use borrow.Author.Tests.{eq-eqb, eqb-true, eqb-false, le-ltb, ltb-false}
 use Rattle.table.specs.Table.{cellOf, isReceived}
 use Rattle.table.specs.Actions.{nextOf, artimOf}
 use Rattle.table.proofs.Right.{hears, leads-to, heard-filled}
 use Rattle.association.specs.declared.Assoc.{Assoc}
 use Rattle.association.specs.declared.Brings.{Brings}
-use Rattle.association.specs.Record.{idle, dropping, timed, strayState, overfull, strayDeaf, mistimed, markedIdle, clauses, broken}
+use Rattle.association.specs.Record.{dropping, timed, strayState, overfull, strayDeaf, mistimed, markedIdle, clauses, broken}
 use Rattle.association.specs.Events.{eventOf, eventOfKind, invalid}
-use Rattle.association.specs.Deeds.{Input, brings, after, entering, requestorAfter}
+use Rattle.association.specs.Deeds.{after, entering, requestorAfter}
 use Rattle.association.specs.Deeds.{Input.whole, Input.long, Input.bare, Input.contents}
 use Rattle.association.specs.Machine.{doing, onEvent}
-use Rattle.cells.proofs.Moves.{Received, received-by, timer-runs, from-13, to-13}
+use Rattle.cells.proofs.Moves.{received-by, timer-runs, from-13, to-13}
 
 pub record Sound (a : Assoc) : Type 0 where
   pub low : 1 ≤ a .state

@@ -1,10 +1,10 @@
 -- "A used byte that isn't dropped goes to the gather buffer behind those gathered; nothing else there changes." "An answered call writes its sent bytes at the start of
 -- the output and changes no byte beyond them." Of every call, refused ones too.
 -- Assumes nothing.
-use Prim.Native.Nat.{ℕ, _+_, _-_, _≤_, _<_}
+use Prim.Native.Nat.{ℕ, _+_, _-_, _≤_}
 use mathlib.Core.Path.{_≡_, refl, sym, ap, _∙_}
-use mathlib.Core.Bool.{Bool, true, false, cond}
-use mathlib.Core.List.{List, [], _∷_, _++_, append-assoc}
+use mathlib.Core.Bool.{Bool, true, false}
+use mathlib.Core.List.{List, [], _++_, append-assoc}
 use native.Mathlib.Omega.{arith}
 use lib.Dec.{eqb}
 use lib.ListN.{length, take, drop, length-append}
@@ -16,11 +16,10 @@ use Rattle.framing.specs.Framing.{Frame, frame, Frame.short, Frame.long, Frame.
 use Rattle.framing.specs.Engine as eng
 use Rattle.framing.proofs.Buffers.{front-length}
 use Rattle.framing.proofs.Receive.{through-fits}
-use Rattle.table.specs.Table.{cellOf}
 use Rattle.association.specs.declared.Assoc.{Assoc}
 use Rattle.association.specs.Record.{dropping}
 use Rattle.association.specs.Refusals.{refusedWith}
-use Rattle.association.specs.Events.{Local, eventOf, invalid}
+use Rattle.association.specs.Events.{Local, invalid}
 use Rattle.writing.specs.Ten.{tenOf}
 use Rattle.association.specs.Deeds.{Input}
 use Rattle.association.specs.Machine.{upper, doing, onEvent, onLocal}

@@ -3,8 +3,8 @@
 use Prim.Native.Nat.{ℕ, _≤_, _<_}
 use mathlib.Core.Path.{_≡_, refl, sym, ap, _∙_, subst}
 use mathlib.Core.Bool.{Bool, true, false, cond, _&&_, _||_, Bool·beq, and-false}
-use mathlib.Core.Option.{Option, none, some}
-use mathlib.Core.List.{List, [], _∷_, map}
+use mathlib.Core.Option.{none, some}
+use mathlib.Core.List.{List, [], map}
 use native.Mathlib.Omega.{arith}
 use native.Mathlib.Decide.{decLt}
 use lib.Dec.{T, eqb}
@@ -15,7 +15,6 @@ use Rattle.laws.proofs.Below.{allBelow, below}
 use Rattle.framing.specs.Runs.{Ran}
 use Rattle.framing.specs.Framing.{Brought}
 use Rattle.framing.specs.Framing.{Brought.pdu, Brought.over-length}
-use Rattle.framing.specs.Host as host
 use Rattle.framing.specs.Host.{Entry, One, Item, HostedScript}
 use Rattle.framing.specs.Reference as ref
 use Rattle.framing.specs.Reference.{Reaction}
@@ -28,13 +27,13 @@ use Rattle.table.specs.Actions.{actions, doesOf, showsOf}
 use Rattle.table.proofs.Right.{past-rows, past-columns}
 use Rattle.association.specs.declared.Assoc.{Assoc}
 use Rattle.association.specs.Record.{idle}
-use Rattle.association.specs.Events.{Local, eventOf, eventOfKind, invalid, numberOf, sendsOf}
+use Rattle.association.specs.Events.{Local, eventOf, eventOfKind, invalid, numberOf}
 use Rattle.association.specs.Machine.{Seen, upper, localCell, doing, onEvent, onLocal, requestRefusal}
 use Rattle.cells.proofs.Moves.{beq-eq}
 use Rattle.cells.proofs.Sound.{never}
 use Rattle.demand.specs.Calls.{Lent, fresh, machine}
 use Rattle.demand.specs.Data.{indicates, indicated, takesData, dataAt, validData, dataIn}
-use Rattle.demand.proofs.Demand.{wanted, demand-3, any-host}
+use Rattle.demand.proofs.Demand.{wanted, any-host}
 
 -- ---- the cells that indicate data, by one computed test
 

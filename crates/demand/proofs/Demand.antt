@@ -1,10 +1,10 @@
 -- DEMAND 3, for the machine of Table 9-10. However each run of bytes is cut, and whatever host gives it, the trace and the end are the reference's, which frames
 -- each run at once and leaves refused events out.
 -- Assumes nothing.
-use Prim.Native.Nat.{ℕ, _≤_, _<_}
-use mathlib.Core.Path.{_≡_, refl, sym, ap, _∙_, subst}
-use mathlib.Core.Bool.{Bool, true, false}
-use mathlib.Core.List.{List, [], _∷_, _++_, map}
+use Prim.Native.Nat.{ℕ, _≤_}
+use mathlib.Core.Path.{_≡_, refl, sym, ap, _∙_}
+use mathlib.Core.Bool.{false}
+use mathlib.Core.List.{List, [], map}
 use native.Mathlib.Omega.{arith}
 use lib.ListN.{length, take}
 use lib.Seq.{length-take-le}
@@ -16,12 +16,11 @@ use Rattle.framing.specs.Engine as eng
 use Rattle.framing.proofs.Framing.{frame-nil}
 use Rattle.framing.proofs.Call.{Done}
 use Rattle.framing.proofs.Instances.{second-cuts, second-hosts}
-use Rattle.association.specs.declared.Assoc.{Assoc}
 use Rattle.association.specs.Record.{idle, brokenOver}
 use Rattle.association.specs.Events.{Local}
 use Rattle.association.specs.Machine.{Seen, upper}
 use Rattle.association.specs.Calls.{withCount}
-use Rattle.cells.proofs.Kept.{Rests, rests-idle, upper-laws}
+use Rattle.cells.proofs.Kept.{rests-idle, upper-laws}
 use Rattle.cells.proofs.Fine.{Fine, ready-of, fine-ready, fine-over}
 use Rattle.demand.specs.Calls.{Lent, fresh, machine, boxOf, boxed}
 use Rattle.demand.proofs.Same.{engine, At, same-calls}

@@ -1,33 +1,31 @@
 -- EVERY CALL that a host makes, from a fresh association on: no record is broken, refusals 6, 3 and 2 never come, and a piece that is not empty is used by a byte or
 -- more.
 -- Assumes nothing.
-use Prim.Native.Nat.{ℕ, _+_, _≤_, _<_}
-use mathlib.Core.Path.{_≡_, refl, sym, ap, _∙_, subst}
-use mathlib.Core.Bool.{Bool, true, false}
-use mathlib.Core.List.{List, [], _∷_, _++_, append-assoc, append-nil}
+use Prim.Native.Nat.{ℕ, _≤_}
+use mathlib.Core.Path.{_≡_, sym, ap, _∙_, subst}
+use mathlib.Core.Bool.{false}
+use mathlib.Core.List.{List, [], _∷_, _++_}
 use native.Mathlib.Omega.{arith}
-use lib.ListN.{length, drop}
+use lib.ListN.{length}
 use Rattle.laws.specs.Lists.{among}
-use Rattle.framing.specs.Runs.{Ran, stop, after}
+use Rattle.framing.specs.Runs.{Ran}
 use Rattle.framing.specs.Host as host
 use Rattle.framing.specs.Host.{One, Item, Heard, Hosted, HostedScript}
 use Rattle.framing.specs.Engine as eng
 use Rattle.framing.proofs.Ready.{Ready}
-use Rattle.framing.proofs.Call.{Called, called, Done, told}
+use Rattle.framing.proofs.Call.{called, told}
 use Rattle.framing.proofs.Hosts.{Advances, cut-script}
-use Rattle.framing.proofs.Sim.{View, Alike, Same, scripts, items}
-use Rattle.association.specs.declared.Assoc.{Assoc}
 use Rattle.association.specs.Record.{brokenOver}
 use Rattle.association.specs.Events.{Local}
-use Rattle.association.specs.Machine.{Seen, upper, requestRefusal}
-use Rattle.association.specs.Calls.{Call, withCount, receiveRefusal, receiveOf, localRefusal, localOf}
+use Rattle.association.specs.Machine.{upper, requestRefusal}
+use Rattle.association.specs.Calls.{withCount, receiveOf, localOf}
 use Rattle.cells.proofs.Given.{request-known}
 use Rattle.cells.proofs.Kept.{upper-laws}
-use Rattle.cells.proofs.Fine.{Fine, fine-ready, fine-over, receive-answered}
+use Rattle.cells.proofs.Fine.{fine-ready, fine-over, receive-answered}
 use Rattle.cells.proofs.Calls.{receive-refusal, local-refusal, local-used}
-use Rattle.demand.specs.Calls.{Lent, leaves, fresh, Given, Made, looking, machine, every, refusals}
+use Rattle.demand.specs.Calls.{Lent, leaves, fresh, Made, looking, every}
 use Rattle.demand.specs.Calls.{Given.piece, Given.local}
-use Rattle.demand.specs.Every.{Each, looked, bytesIn, mayGet, Held}
+use Rattle.demand.specs.Every.{Each, Held}
 use Rattle.demand.proofs.Same.{engine, At, hears, does, refused-same}
 use Rattle.demand.proofs.Demand.{at-fresh}
 

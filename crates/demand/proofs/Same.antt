@@ -1,15 +1,15 @@
 -- Call by call, wherever it is ready, the machine answers as the engine of framing does: so refusals 6, 3 and 2 do not come, and what is refused with 1, 4 or 5 is
 -- what the reference leaves out.
 -- Assumes nothing.
-use Prim.Native.Nat.{ℕ, _+_, _-_, _≤_, _<_}
+use Prim.Native.Nat.{ℕ, _-_, _<_}
 use mathlib.Core.Path.{_≡_, refl, sym, ap, _∙_}
 use mathlib.Core.Bool.{Bool, true, false, cond}
-use mathlib.Core.Option.{Option, none, some}
+use mathlib.Core.Option.{none, some}
 use mathlib.Core.List.{List, [], _∷_, _++_}
 use native.Mathlib.Omega.{arith}
 use lib.Dec.{eqb}
 use lib.ListN.{length, take}
-use borrow.Author.Tests.{eq-eqb, ne-eqb, eqb-true, eqb-false}
+use borrow.Author.Tests.{ne-eqb, eqb-true, eqb-false}
 use Rattle.octets.specs.Put.{front}
 use Rattle.framing.specs.Runs.{Ran}
 use Rattle.framing.specs.Framing.{Frame, frame, Frame.short, Frame.long, Frame.whole}
@@ -23,19 +23,19 @@ use Rattle.table.specs.Table.{cellOf}
 use Rattle.judging.specs.Pdu.{kindOf}
 use Rattle.association.specs.declared.Assoc.{Assoc}
 use Rattle.association.specs.Record.{dropping}
-use Rattle.association.specs.Refusals.{recordRefusal, refusedWith}
+use Rattle.association.specs.Refusals.{refusedWith}
 use Rattle.association.specs.Events.{Local, Sends, eventOf, invalid, numberOf, sendsOf}
 use Rattle.association.specs.Events.{Local.plain, Local.confirm, Local.accept, Local.reject, Local.send, Sends.own, Sends.bad, Sends.given}
-use Rattle.association.specs.Deeds.{Input, after}
+use Rattle.association.specs.Deeds.{Input}
 use Rattle.association.specs.Machine.{Seen, upper, localAction, inputOf, doing, onEvent, onLocal, requestRefusal}
-use Rattle.association.specs.Calls.{Call, call, withCount, lentOf, heard, receiveOf, localRefusal, localOf}
+use Rattle.association.specs.Calls.{Call, call, withCount, lentOf, heard, localRefusal, localOf}
 use Rattle.cells.proofs.Sound.{Sound, brought-filled, long-filled}
 use Rattle.cells.proofs.Given.{OwnCell, acts, cell-own, request-roomy}
-use Rattle.cells.proofs.Kept.{Rests, upper-laws}
+use Rattle.cells.proofs.Kept.{upper-laws}
 use Rattle.cells.proofs.Fine.{Fine, fine-ready, no-refusal, receive-answered}
-use Rattle.cells.proofs.Moved.{keeps, next-is, moved-same, moved-count}
+use Rattle.cells.proofs.Moved.{next-is, moved-same, moved-count}
 use Rattle.cells.proofs.Answered.{received, local-refused, local-done, doneLocal}
-use Rattle.demand.specs.Calls.{Lent, leaves, entryOf, seenOf, machine}
+use Rattle.demand.specs.Calls.{Lent, leaves, seenOf, machine}
 
 -- what is lent, as the engine of framing has it
 abbrev pub engine : Lent → eng.Lent upper

@@ -1,8 +1,8 @@
 -- Demand 3: the calls as a host sees them, refusals included, from a fresh association on.
 use Prim.Native.Nat.{ℕ}
 use mathlib.Core.Bool.{cond}
-use mathlib.Core.List.{List, [], _∷_, _++_}
-use lib.ListN.{take}
+use mathlib.Core.List.{List, [], _∷_}
+use lib.ListN.{length, take}
 use lib.Dec.{eqb}
 use Rattle.framing.specs.Runs.{Ran}
 use Rattle.framing.specs.Host.{Entry, One, Calls}
@@ -31,6 +31,11 @@ fresh g o = record { assoc = idle; gather = g; out = o }
 pub data Given : Type 0 where
   piece : List ℕ → Given
   local : Local → Given
+
+-- how many bytes
+abbrev pub bytesIn : Given → ℕ
+bytesIn (piece p) = length p
+bytesIn (local e) = 0
 
 -- what it was given, what it was lent, what it answered and left
 pub record Made : Type 0 where
