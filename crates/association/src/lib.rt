@@ -10,6 +10,7 @@ pub use events::event_of_kind;
 pub use events::local_cell;
 pub use refusals::dropping;
 pub use refusals::fresh;
+pub use refusals::length_field;
 pub use refusals::record_refusal;
 pub use refusals::refused;
 

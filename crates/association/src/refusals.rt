@@ -122,7 +122,8 @@ fn broken(a: Assoc) -> bool
     marked_idle(a)
 }
 
-fn length_field(gather: &[u8]) -> usize
+// The length field of a header.
+pub fn length_field(gather: &[u8]) -> usize
     ensures { λ r. ⌜ r ≡ lengthField (now (gather .entry)) ⌝ }
 {
     octets::be32_at(gather, 2) as usize

@@ -2,18 +2,18 @@
 -- Assumes nothing.
 use Prim.Native.Nat.{ℕ, _+_, _≤_, _<_}
 use mathlib.Core.Path.{_≡_, refl, sym, ap, _∙_}
-use mathlib.Core.List.{List, [], _∷_, _++_, map, append-assoc, append-nil}
-use lib.ListN.{length, take, drop}
-use Rattle.framing.specs.Runs.{Ran, stop, after, runs}
+use mathlib.Core.List.{List, [], _++_, map, append-assoc, append-nil}
+use lib.ListN.{length, take}
+use Rattle.framing.specs.Runs.{Ran, after, runs}
 use Rattle.framing.specs.Host as host
-use Rattle.framing.specs.Host.{Entry, One, Item, joined, Hosted, HostedScript, Item.event, Item.run}
+use Rattle.framing.specs.Host.{Entry, One, Item, Hosted, HostedScript}
 use Rattle.framing.specs.Reference as ref
 use Rattle.framing.specs.Reference.{Machine}
 use Rattle.framing.specs.Engine as eng
 use Rattle.framing.specs.Engine.{Lent}
 use Rattle.framing.proofs.Ready.{Laws, Ready, ready-fresh}
-use Rattle.framing.proofs.Call.{Called, called, at-rest, Done, told}
-use Rattle.framing.proofs.Hosts.{Advances, cut-script, kept-script}
+use Rattle.framing.proofs.Call.{called, at-rest, Done, told}
+use Rattle.framing.proofs.Hosts.{Advances, cut-script}
 
 module _ (M : Machine) (L : Laws M) where
   open Machine M using (R, E, A, limit)

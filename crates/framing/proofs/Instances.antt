@@ -1,9 +1,9 @@
 -- Cut independence for a second engine, as is one that also refuses; with a log beside the engine; for each slot; for each end of a line.
 -- Assumes nothing.
-use Prim.Native.Nat.{ℕ, _+_, _≤_, _<_}
-use mathlib.Core.Path.{_≡_, refl, sym, ap, _∙_}
+use Prim.Native.Nat.{ℕ, _+_, _<_}
+use mathlib.Core.Path.{_≡_, ap, _∙_}
 use mathlib.Core.Bool.{Bool, true}
-use mathlib.Core.List.{List, [], _∷_, _++_, map}
+use mathlib.Core.List.{List}
 use lib.ListN.{length}
 use Rattle.framing.specs.Runs.{Ran}
 use Rattle.framing.specs.Host as host

@@ -5,10 +5,10 @@ use mathlib.Core.Path.{_≡_, refl, sym, ap, _∙_}
 use mathlib.Core.Bool.{Bool, true, false, cond, not}
 use mathlib.Core.List.{List, [], _∷_, _++_, map, append-assoc, append-nil}
 use native.Mathlib.Omega.{arith}
-use lib.ListN.{take, drop, take-append-drop}
+use lib.ListN.{take, take-append-drop}
 use Rattle.framing.specs.Runs.{Ran, runs, givens}
 use Rattle.framing.specs.Host as host
-use Rattle.framing.specs.Host.{Calls, One, One.one, Item, Item.event, Item.run}
+use Rattle.framing.specs.Host.{Calls, One, Item, Item.event, Item.run}
 use Rattle.framing.specs.Slots.{At, at, ownOf}
 use Rattle.framing.specs.Line as line
 use Rattle.framing.specs.Line.{Side, Side.left, Side.right, other, sameSide, gotIn, Line, Move}

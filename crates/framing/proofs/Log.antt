@@ -1,14 +1,13 @@
 -- With room for one record more than there are actions, the log holds a record for each of them, and nothing else differs.
 -- Assumes nothing.
-use Prim.Native.Nat.{ℕ, _+_, _<_, _≤_}
+use Prim.Native.Nat.{ℕ, _+_, _<_}
 use mathlib.Core.Path.{_≡_, refl, sym, ap, _∙_}
-use mathlib.Core.Bool.{Bool, true, false}
-use mathlib.Core.List.{List, [], _∷_, _++_, map, append-assoc, append-nil, map-append}
+use mathlib.Core.Bool.{true}
+use mathlib.Core.List.{List, [], _++_, map, append-assoc, append-nil, map-append}
 use native.Mathlib.Omega.{arith}
 use lib.ListN.{length, length-append, length-map}
 use lib.Dec.{ltb}
 use borrow.Author.Tests.{lt-ltb}
-use Rattle.framing.specs.Runs.{Ran}
 use Rattle.framing.specs.Host as host
 use Rattle.framing.specs.Host.{Calls, Item}
 use Rattle.framing.specs.Log.{Logged, logged, noting}

@@ -1,12 +1,11 @@
 -- The reference by its first event; where bytes are dropped; and two runs with no local event between them are one run.
 -- Assumes nothing.
 use Prim.Native.Nat.{ℕ}
-use mathlib.Core.Path.{_≡_, refl, sym, ap, _∙_}
+use mathlib.Core.Path.{_≡_, refl, ap, _∙_}
 use mathlib.Core.Bool.{Bool, true, false, cond}
 use mathlib.Core.List.{List, [], _∷_, _++_}
 use lib.ListN.{take, drop}
 use Rattle.framing.specs.Runs.{Ran, stop, after, runs}
-use Rattle.framing.specs.Framing as once
 use Rattle.framing.specs.Framing.{Frame, frame, Framed, Brought, splitBy, split, Frame.short, Frame.long, Frame.whole}
 use Rattle.framing.specs.Host.{Entry}
 use Rattle.framing.specs.Reference as ref

@@ -1,8 +1,8 @@
 -- Two lists of steps, one behind the other.
 -- Assumes nothing.
-use mathlib.Core.Path.{_≡_, refl, ap, _∙_, sym}
+use mathlib.Core.Path.{_≡_, refl, ap, _∙_}
 use mathlib.Core.List.{List, [], _∷_, _++_, append-assoc, append-nil}
-use Rattle.framing.specs.Runs.{Ran, stop, after, runs}
+use Rattle.framing.specs.Runs.{Ran, after, runs}
 
 module _ {I T S : Type 0} (step : I → S → Ran T S) where
   pub runs-append : (is js : List I) (s : S) → runs step (is ++ js) s ≡ after (runs step is s .trace) (runs step js (runs step is s .end))

@@ -1,11 +1,11 @@
 -- Each slot does what its own engine does with the items given to it, and items on two slots can be given in either order.
 -- Assumes nothing.
 use Prim.Native.Nat.{ℕ}
-use mathlib.Core.Path.{_≡_, refl, sym, ap, _∙_, subst}
+use mathlib.Core.Path.{_≡_, refl, sym, ap, _∙_}
 use mathlib.Core.Bool.{Bool, true, false, cond}
-use mathlib.Core.List.{List, [], _∷_, _++_, map, append-assoc, append-nil, map-append}
+use mathlib.Core.List.{List, [], _∷_, _++_, map, append-assoc, map-append}
 use native.Mathlib.Omega.{arith}
-use Rattle.framing.specs.Runs.{Ran, stop, runs, givens}
+use Rattle.framing.specs.Runs.{Ran, runs, givens}
 use Rattle.framing.specs.Host as host
 use Rattle.framing.specs.Host.{Calls, One, One.one, Item, Item.event, Item.run, feed}
 use Rattle.framing.specs.Slots.{At, at, slotOf, onOne, ownOf, giving, givenTo, changed, slots, atSlot}

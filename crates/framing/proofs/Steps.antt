@@ -1,10 +1,9 @@
 -- EXACTLY: of the entries of a trace, those that pass a test are, in order, those of the events that pass a test.
 -- Assumes nothing.
-use Prim.Native.Nat.{ℕ}
 use mathlib.Core.Path.{_≡_, refl, sym, ap, _∙_}
 use mathlib.Core.Bool.{Bool, true, false, cond}
 use mathlib.Core.Option.{Option, none, some}
-use mathlib.Core.List.{List, [], _∷_, _++_, map, append-assoc, append-nil, map-append}
+use mathlib.Core.List.{List, [], _∷_, _++_, map, append-assoc, map-append}
 use Rattle.framing.specs.Runs.{Ran, runs, givens}
 use Rattle.framing.specs.Framing.{Brought, split}
 use Rattle.framing.specs.Host.{Entry, One, Item, joined, Item.event, Item.run}

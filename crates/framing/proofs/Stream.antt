@@ -6,7 +6,7 @@ use mathlib.Core.Bool.{Bool, true, false, cond}
 use mathlib.Core.Option.{Option, none, some}
 use mathlib.Core.List.{List, [], _∷_, _++_, map, append-assoc, append-nil, map-append}
 use native.Mathlib.Omega.{arith}
-use Rattle.framing.specs.Runs.{Ran, stop, runs, givens}
+use Rattle.framing.specs.Runs.{Ran, runs, givens}
 use Rattle.framing.specs.Framing.{Framed, Brought, split}
 use Rattle.framing.specs.Host as host
 use Rattle.framing.specs.Host.{One, Item, joined, Item.event, Item.run}

@@ -1,22 +1,22 @@
 -- The toy machine keeps the laws, so that the main theorem holds of it; and the engines of ShutOut, made from its own, differ from its reference.
 -- Assumes nothing.
 use Prim.Native.Nat.{ℕ, _+_, _≤_}
-use mathlib.Core.Path.{_≡_, refl, ap, subst}
+use mathlib.Core.Path.{_≡_, ap, subst}
 use mathlib.Core.Bool.{Bool, true, false, cond}
-use mathlib.Core.Option.{Option, none, some}
+use mathlib.Core.Option.{none, some}
 use mathlib.Core.List.{List, [], _∷_}
 use native.Mathlib.Omega.{arith}
 use lib.ListN.{length, replicate}
 use lib.Dec.{ltb}
 use Rattle.octets.specs.Octets.{be16, be32}
 use Rattle.octets.specs.Put.{put, front}
-use Rattle.framing.specs.Runs.{Ran, runs}
+use Rattle.framing.specs.Runs.{runs}
 use Rattle.framing.specs.Rounds.{rounds, byLength}
 use Rattle.framing.specs.Framing.{lengthField, frame, split}
 use Rattle.framing.specs.Host as host
-use Rattle.framing.specs.Host.{Entry, Item, One, one, event, run}
+use Rattle.framing.specs.Host.{Entry, Item, One, one, run}
 use Rattle.framing.specs.Reference as ref
-use Rattle.framing.specs.Reference.{Machine, Reaction}
+use Rattle.framing.specs.Reference.{Reaction}
 use Rattle.framing.specs.Engine as eng
 use Rattle.framing.specs.ShutOut as out
 use Rattle.framing.specs.Toy.{toy}

@@ -1,6 +1,5 @@
 -- Slots: engines of one channel side by side, one for each channel of any number.
-use Prim.Native.Nat.{ℕ}
-use mathlib.Core.Bool.{Bool, true, false, cond}
+use mathlib.Core.Bool.{Bool, cond}
 use mathlib.Core.List.{List, [], _∷_, _++_, map}
 use Rattle.framing.specs.Runs.{Ran}
 use Rattle.framing.specs.Host.{Calls, One, One.one, Item, Item.event, Item.run}
