@@ -16,7 +16,7 @@ use Rattle.contents.specs.Contents.{subGood, subNext, good20H, one, good50H, co
 use Rattle.judging.specs.Data.{pdvStep, pdvsIn, pdvs, pdvOk, pdvsOk}
 use Rattle.judging.specs.Values.{abortOk}
 use Rattle.judging.specs.Pdu.{whole, requestOk, dataOk, releaseOk, abortPduOk, validAs, kindOf, acceptable, maximumOf}
-use Rattle.writing.specs.Ten.{tenOf}
+use Rattle.writing.specs.Ten.{tens, tenOf}
 use Rattle.framing.specs.Framing.{lengthField, frame}
 use Rattle.framing.specs.Engine as eng
 use Rattle.table.specs.Table.{table, cellOf}
@@ -30,5 +30,5 @@ use Rattle.association.specs.Calls.{receiveRefusal, heard, receiveOf}
 use Rattle.cases.specs.Cases.{Row, cases, gives}
 
 pub both-sides : (map (λ (r : Row). gives (r .asked)) cases ≡ map (λ (r : Row). r .answered) cases) × ((s : List ℕ) → 64 < length s → nameOk s ≡ false)
-unfolding cases receiveOf receiveRefusal heard recordRefusal broken clauses strayState overfull strayDeaf mistimed badLength markedIdle timed dropping eng.receive frame lengthField be32 be16 put front onEvent doing eventOf eventOfKind after entering requestorAfter peerAt acceptsAt abortFor tenBy tenOf table cellOf actions doesOf nextOf showsOf artimOf kindOf acceptable maximumOf whole validAs requestOk dataOk releaseOk abortPduOk abortOk pdvStep pdvsIn pdvs pdvOk pdvsOk subGood subNext good20H one good50H contextGood topGood topNext ids itemsOk maximumIn step walkIn walk filled bodies keeps nameOk titleOk trimEnd titlesEqual among distinct
+unfolding cases receiveOf receiveRefusal heard recordRefusal broken clauses strayState overfull strayDeaf mistimed badLength markedIdle timed dropping eng.receive frame lengthField be32 be16 put front onEvent doing eventOf eventOfKind after entering requestorAfter peerAt acceptsAt abortFor tenBy tenOf tens table cellOf actions doesOf nextOf showsOf artimOf kindOf acceptable maximumOf whole validAs requestOk dataOk releaseOk abortPduOk abortOk pdvStep pdvsIn pdvs pdvOk pdvsOk subGood subNext good20H one good50H contextGood topGood topNext ids itemsOk maximumIn step walkIn walk filled bodies keeps nameOk titleOk trimEnd titlesEqual among distinct
 both-sides = (refl, name-long)

@@ -31,10 +31,10 @@ use Rattle.association.specs.Calls.{call, withCount, lentOf, heard, receiveRefu
 use Rattle.cells.specs.Cells.{calls, bytesOf, eventBy, pduBy, eventIn, pduIn, Did, Demand2}
 use Rattle.cells.specs.Cells as cells
 use Rattle.cells.proofs.Moves.{Received, received-by}
-use Rattle.cells.proofs.Sound.{Sound, entering-state, never}
-use Rattle.cells.proofs.Given.{cell-own}
-use Rattle.cells.proofs.Fine.{Receives, receives-of, drops-same}
-use Rattle.cells.proofs.Moved.{keeps, next-is}
+use Rattle.association.proofs.Sound.{Sound}
+use Rattle.cells.proofs.Sound.{keeps, entering-state, never}
+use Rattle.cells.proofs.Given.{cell-own, next-is}
+use Rattle.cells.proofs.Ready.{Receives, receives-of, drops-same}
 use Rattle.cells.proofs.Answered.{received, local-done, takes-of}
 
 -- ---- the PDU in the gather buffer is the one in the bytes
@@ -88,8 +88,8 @@ module _ (a : Assoc) (g p o : List ℕ) (h : receiveRefusal a g o ≡ 0) (d : dr
       rw (received a g p o h, receive-long upper (lentOf a g o) p (drops-same a 0 ∙ d) e)
       (at-event invalid (6 - a .gathered) 0 0 Input.long (eng.gathering upper (lentOf a g o) (take (6 - a .gathered) p)) [] (accepts-none (cellOf invalid (a .state))))
   heard-by (whole n) e (at-end x y z w t) c =
-      let lg : length (take (a .gathered) g) ≡ a .gathered = length-take-le (a .gathered) g (v .fine .within) in
-      let q : take n (put g (a .gathered) (take (n - a .gathered) p)) ≡ take n (bytesOf a g p) = pdu-same g p (a .gathered) n (v .fine .within) (omega arith) z in
+      let lg : length (take (a .gathered) g) ≡ a .gathered = length-take-le (a .gathered) g (v .within) in
+      let q : take n (put g (a .gathered) (take (n - a .gathered) p)) ≡ take n (bytesOf a g p) = pdu-same g p (a .gathered) n (v .within) (omega arith) z in
       rw (received a g p o h, receive-whole upper (lentOf a g o) p (drops-same a 0 ∙ d) n e, q)
       (at-event (eventOf a (take n (bytesOf a g p))) (n - a .gathered) n 0 (Input.whole (take n (bytesOf a g p)))
       (eng.gathering upper (lentOf a g o) (take (n - a .gathered) p)) (take n (bytesOf a g p)) refl)
@@ -123,7 +123,7 @@ unfolding eventIn pduIn
 brought-at a g p o h d c =
     let r = brought-by a (frame 16384 (bytesOf a g p)) (bytesOf a g p) c in
     heard-by a g p o h (hears-by a (eventBy a (frame 16384 (bytesOf a g p)) (bytesOf a g p)) r c d) (frame 16384 (bytesOf a g p)) refl
-    (begins 16384 (take (a .gathered) g) p (receives-of a g o h .fine .quiet)) c
+    (begins 16384 (take (a .gathered) g) p (receives-of a g o h .quiet)) c
 
 -- ---- a blank cell of a received PDU
 
@@ -145,7 +145,7 @@ dropped-blank-at : (a : Assoc) (g p o : List ℕ) (e : ℕ) → 1 ≤ e → e �
 dropped-blank-at a g p o e e₁ e₂ h r c = dropped-at a g p o h (by (hears (a .state)) refl)
   where
     S : Sound a
-    S = receives-of a g o h .fine .sound
+    S = receives-of a g o h .fine-record .sound
 
     by : (b : Bool) → hears (a .state) ≡ b → dropping a ≡ true
     by true q = absurd (omega (arith, heard-filled e (a .state) e₁ (omega arith) (S .low) (S .high) r q))

@@ -31,9 +31,9 @@ use Rattle.association.specs.Events.{Local, eventOf, eventOfKind, invalid, numb
 use Rattle.association.specs.Machine.{Seen, upper, localCell, doing, onEvent, onLocal, requestRefusal}
 use Rattle.cells.proofs.Moves.{beq-eq}
 use Rattle.cells.proofs.Sound.{never}
-use Rattle.demand.specs.Calls.{Lent, fresh, machine}
+use Rattle.demand.specs.Calls.{Lent, fresh, machine, wanted}
 use Rattle.demand.specs.Data.{indicates, indicated, takesData, dataAt, validData, dataIn}
-use Rattle.demand.proofs.Demand.{wanted, any-host}
+use Rattle.demand.proofs.Demand.{any-host}
 
 -- ---- the cells that indicate data, by one computed test
 
@@ -138,7 +138,7 @@ shows-event a over-length h = shows-at _ _ (right-event a over-length ∙ h)
 -- ---- the whole run
 
 module _ (is : List (Item One Local)) (g o : List ℕ) (hg : 16390 ≤ length g) (ho : 16390 ≤ length o) {y : Ran (Entry Seen) Lent} (w : HostedScript machine (fresh g o) is y) where
-  same-trace : y .trace ≡ wanted is g o hg ho .trace
+  same-trace : y .trace ≡ wanted is .trace
   same-trace = ap (λ (x : Ran (Entry Seen) (ref.Box upper)). x .trace) (any-host is g o hg ho w)
 
   -- the entries with DT-2 or AR-6 are theirs

@@ -14,14 +14,14 @@ use Rattle.framing.specs.Host.{One, Item, Heard, Hosted, HostedScript}
 use Rattle.framing.specs.Engine as eng
 use Rattle.framing.proofs.Ready.{Ready}
 use Rattle.framing.proofs.Call.{called, told}
-use Rattle.framing.proofs.Hosts.{Advances, cut-script}
+use Rattle.framing.proofs.Hosts.{Advances, feed-step, cut-script}
 use Rattle.association.specs.Record.{brokenOver}
 use Rattle.association.specs.Events.{Local}
 use Rattle.association.specs.Machine.{upper, requestRefusal}
 use Rattle.association.specs.Calls.{withCount, receiveOf, localOf}
 use Rattle.cells.proofs.Given.{request-known}
 use Rattle.cells.proofs.Kept.{upper-laws}
-use Rattle.cells.proofs.Fine.{fine-ready, fine-over, receive-answered}
+use Rattle.cells.proofs.Ready.{fine-ready, fine-over, receive-answered}
 use Rattle.cells.proofs.Calls.{receive-refusal, local-refusal, local-used}
 use Rattle.demand.specs.Calls.{Lent, leaves, fresh, Made, looking, every}
 use Rattle.demand.specs.Calls.{Given.piece, Given.local}
@@ -51,7 +51,7 @@ module _ (s : Lent) (r : At s) where
   takes e = record { given = local e; lent = s; call = localOf (s .assoc) (s .gather) (s .out) e }
 
   lent-fine : brokenOver (s .assoc) (s .gather) ≡ false
-  lent-fine = fine-over _ _ (fine-ready _ _ (s .out) r)
+  lent-fine = fine-over _ _ 16390 (fine-ready _ _ (s .out) r)
 
   -- bytes are never refused
   pub never-refused : (p : List ℕ) → receives p .call .answer .told .refusal ≡ 0
@@ -63,7 +63,7 @@ module _ (s : Lent) (r : At s) where
       let k = called upper upper-laws (engine s) p [] r in
       record {
         lent-whole = lent-fine;
-        left-whole = fine-over _ _ (fine-ready _ _ (receives p .call .out) (at-received p));
+        left-whole = fine-over _ _ 16390 (fine-ready _ _ (receives p .call .out) (at-received p));
         refusal = rw (never-refused p);
         at-least = λ h. rw (used-same p) (k .at-least h);
         at-most = rw (used-same p) (k .at-most);
@@ -75,7 +75,7 @@ module _ (s : Lent) (r : At s) where
       let q : takes e .call .answer .told .refusal ≡ requestRefusal (withCount a 0) e 16390 = local-refusal a (s .gather) (s .out) e ∙ refused-same s r e in
       record {
         lent-whole = lent-fine;
-        left-whole = fine-over _ _ (fine-ready _ _ (takes e .call .out) (at-given e));
+        left-whole = fine-over _ _ 16390 (fine-ready _ _ (takes e .call .out) (at-given e));
         refusal = rw q (request-known (withCount a 0) e);
         at-least = λ h. absurd (omega arith);
         at-most = rw (local-used a (s .gather) (s .out) e) (omega arith);
@@ -96,6 +96,10 @@ module _ {T : Type 0} (look : Made → List T) where
         hears = λ s c p r. at-received s r p;
         does = λ s c e r. at-given s r e;
       }
+
+  -- what the host's loop is, without its bound: nothing to do, or one call, and then the same with what it did not use
+  pub loop : (c : One) (p : List ℕ) (s : Lent) → At s → host.feed (looking look) c p s ≡ host.feedBy (looking look) c (host.feed (looking look) c) p s
+  loop c p s r = feed-step (looking look) At advances c p s r
 
 module _ (P : Made → Type 0) (bytes : (s : Lent) (p : List ℕ) → At s → P (record { given = piece p; lent = s; call = receiveOf (s .assoc) (s .gather) p (s .out) })) where
   -- a run, given by any host
