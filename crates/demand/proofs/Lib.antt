@@ -5,3 +5,4 @@ pub mod Looked
 pub mod Refused
 pub mod Data
 pub mod ShutOut
+pub mod Instances
