@@ -1,29 +1,26 @@
 -- What a call is where it is refused, and where it is answered; and that an answered call leaves a record that is fine over the gather buffer as left.
 -- Assumes nothing.
-use Prim.Native.Nat.{ℕ, _+_, _-_, _≤_, _<_}
-use mathlib.Core.Path.{_≡_, refl, sym, ap, _∙_, subst}
+use Prim.Native.Nat.{ℕ, _≤_}
+use mathlib.Core.Path.{_≡_, refl}
 use mathlib.Core.Bool.{Bool, true, false, cond}
-use mathlib.Core.Option.{Option, none, some}
-use mathlib.Core.List.{List, [], _∷_, _++_}
+use mathlib.Core.List.{List, [], _++_}
 use native.Mathlib.Omega.{arith}
-use lib.Dec.{eqb, ltb}
-use lib.ListN.{length, take, drop, replicate}
-use borrow.Author.Tests.{eq-eqb, ne-eqb, eqb-true, eqb-false}
+use lib.Dec.{eqb}
+use lib.ListN.{length, take, replicate}
+use borrow.Author.Tests.{ne-eqb, eqb-true, eqb-false}
 use Rattle.octets.specs.Put.{front}
 use Rattle.framing.specs.Framing.{Frame, frame, Frame.short, Frame.long, Frame.whole}
 use Rattle.framing.specs.Engine as eng
-use Rattle.framing.proofs.Ready.{Ready}
 use Rattle.framing.proofs.Call.{called}
-use Rattle.table.specs.Actions.{nextOf}
 use Rattle.association.specs.declared.Assoc.{Assoc}
-use Rattle.association.specs.Record.{dropping, strayDeaf, mistimed, markedIdle}
+use Rattle.association.specs.Record.{dropping}
 use Rattle.association.specs.Refusals.{recordRefusal, refusedWith}
 use Rattle.association.specs.Events.{Local}
 use Rattle.association.specs.Machine.{upper, requestRefusal, onLocal}
-use Rattle.association.specs.Calls.{Call, call, unless, withCount, lentOf, heard, receiveRefusal, receiveOf, localRefusal, localOf}
-use Rattle.cells.proofs.Sound.{Sound}
+use Rattle.association.specs.Calls.{Call, call, withCount, lentOf, heard, receiveRefusal, receiveOf, localRefusal, localOf}
 use Rattle.cells.proofs.Kept.{upper-laws}
-use Rattle.cells.proofs.Fine.{Fine, Receives, receives-of, ready-of, drops-same}
+use Rattle.association.proofs.Sound.{Fine}
+use Rattle.cells.proofs.Ready.{receives-of, ready-of, fine-lent}
 
 -- ---- receiving
 module _ (a : Assoc) (g p o : List ℕ) where
@@ -52,19 +49,6 @@ beside : (a : Assoc) (g p o q : List ℕ) → Beside (eng.receive upper (lentOf 
 unfolding eng.receive
 beside a g p o q = beside-by (dropping (withCount a 0)) (frame 16384 (take (a .gathered) g ++ p)) a g p o q
 
-sound-count : (a : Assoc) (n : ℕ) → Sound a → Sound (withCount a n)
-unfolding strayDeaf mistimed markedIdle
-sound-count a n S = record { low = S .low; high = S .high; deafness = S .deafness; timer = S .timer; marks = S .marks }
-
-pub fine-lent : (x : eng.Lent upper) → Ready upper upper-laws x → Fine (withCount (x .state) (x .count)) (x .gather)
-fine-lent x r =
-    record {
-      sound = sound-count (x .state) (x .count) (r .sound .sound);
-      within = r .within;
-      quiet = r .quiet;
-      dropped = λ d. r .dropped (sym (drops-same (x .state) (x .count)) ∙ d);
-    }
-
 module _ (a : Assoc) (g p o : List ℕ) (h : receiveRefusal a g o ≡ 0) where
   ample : List ℕ
   ample = replicate 16390 0
@@ -73,11 +57,11 @@ module _ (a : Assoc) (g p o : List ℕ) (h : receiveRefusal a g o ≡ 0) where
   unfolding ample
   ample-room = omega arith
 
-  pub receive-fine : Fine (receiveOf a g p o .answer .assoc) (receiveOf a g p o .gather)
+  pub receive-fine : Fine (receiveOf a g p o .answer .assoc) (receiveOf a g p o .gather) 16390
   unfolding heard
   receive-fine =
       let v = receives-of a g o h in
-      let r = called upper upper-laws (lentOf a g ample) p [] (ready-of a g ample (v .fine) (v .gather-room) ample-room) .ready in
+      let r = called upper upper-laws (lentOf a g ample) p [] (ready-of a g ample (v .fine-record) ample-room) .ready in
       let f = fine-lent (eng.receive upper (lentOf a g ample) p .next) r in
       let s = beside a g p ample o in
       rw (received a g p o h) (rw (s .state, s .count, s .gather) at f)

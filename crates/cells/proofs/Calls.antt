@@ -3,7 +3,7 @@
 -- Assumes nothing.
 use Prim.Native.Nat.{ℕ}
 use mathlib.Core.Path.{_≡_, refl, sym, ap, _∙_}
-use mathlib.Core.Bool.{Bool, true, false, cond}
+use mathlib.Core.Bool.{Bool, true, false}
 use mathlib.Core.List.{List}
 use lib.Dec.{eqb}
 use lib.ListN.{length}
@@ -13,8 +13,8 @@ use Rattle.association.specs.Record.{timed, brokenOver}
 use Rattle.association.specs.Refusals.{refusedWith}
 use Rattle.association.specs.Events.{Local}
 use Rattle.association.specs.Calls.{Call, call, heard, receiveRefusal, receiveOf, localRefusal, localOf}
-use Rattle.cells.proofs.Sound.{timed-mark}
-use Rattle.cells.proofs.Fine.{Fine, fine-given, fine-over}
+use Rattle.association.proofs.Sound.{Fine, fine}
+use Rattle.cells.proofs.Ready.{fine-over}
 use Rattle.cells.proofs.Moved.{local-fine}
 use Rattle.cells.proofs.Answered.{receive-refused, received, receive-fine, local-refused, local-done, takes-of}
 
@@ -38,14 +38,14 @@ module _ (a : Assoc) (g p o : List ℕ) where
   receive-unchanged n = receive-refused a g p o (λ e. n (receive-refusal ∙ e)) ∙ ap (λ (k : ℕ). call (refusedWith k a) g o) (sym receive-refusal)
 
   module _ (h : receiveOf a g p o .answer .told .refusal ≡ 0) where
-    left-fine : Fine (receiveOf a g p o .answer .assoc) (receiveOf a g p o .gather)
+    left-fine : Fine (receiveOf a g p o .answer .assoc) (receiveOf a g p o .gather) 16390
     left-fine = receive-fine a g p o (sym receive-refusal ∙ h)
 
     pub receive-artim : receiveOf a g p o .answer .assoc .artim ≡ timed (receiveOf a g p o .answer .assoc .state)
-    receive-artim = timed-mark _ (left-fine .sound .timer)
+    receive-artim = left-fine .sound .timed
 
     pub receive-whole-record : brokenOver (receiveOf a g p o .answer .assoc) (receiveOf a g p o .gather) ≡ false
-    receive-whole-record = fine-over _ _ left-fine
+    receive-whole-record = fine-over _ _ 16390 left-fine
 
   pub receive-sane : brokenOver a g ≡ false → brokenOver (receiveOf a g p o .answer .assoc) (receiveOf a g p o .gather) ≡ false
   unfolding refusedWith
@@ -78,17 +78,17 @@ module _ (a : Assoc) (g o : List ℕ) (e : Local) where
   local-unchanged n = local-refused a g o e (λ q. n (local-refusal ∙ q)) ∙ ap (λ (k : ℕ). call (refusedWith k a) g o) (sym local-refusal)
 
   module _ (h : localOf a g o e .answer .told .refusal ≡ 0) where
-    left-sound : Fine (localOf a g o e .answer .assoc) (localOf a g o e .gather)
+    left-sound : Fine (localOf a g o e .answer .assoc) (localOf a g o e .gather) (localOf a g o e .answer .assoc .gathered)
     left-sound =
         let z = sym local-refusal ∙ h in
         let t = takes-of a g o e z in
-        rw (local-done a g o e z) (local-fine a g e (length o) (fine-given a g (t .record-fine)) (t .request-fine))
+        rw (local-done a g o e z) (local-fine a g e (length o) (fine a g (a .gathered) (t .record-fine)) (t .request-fine))
 
     pub local-artim : localOf a g o e .answer .assoc .artim ≡ timed (localOf a g o e .answer .assoc .state)
-    local-artim = timed-mark _ (left-sound .sound .timer)
+    local-artim = left-sound .sound .timed
 
     pub local-whole-record : brokenOver (localOf a g o e .answer .assoc) (localOf a g o e .gather) ≡ false
-    local-whole-record = fine-over _ _ left-sound
+    local-whole-record = fine-over _ _ _ left-sound
 
   pub local-sane : brokenOver a g ≡ false → brokenOver (localOf a g o e .answer .assoc) (localOf a g o e .gather) ≡ false
   unfolding refusedWith

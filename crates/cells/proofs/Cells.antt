@@ -2,19 +2,18 @@
 -- dropped. For every record, both buffers, every piece and every local event.
 -- Assumes nothing.
 use Prim.Native.Nat.{ℕ, _+_, _-_, _≤_, _<_}
-use mathlib.Core.Path.{_≡_, refl, sym, ap, _∙_, subst}
-use mathlib.Core.Bool.{Bool, true, false, cond, _||_, and-false}
-use mathlib.Core.List.{List, [], _∷_, _++_, append-nil}
+use mathlib.Core.Path.{_≡_, refl, sym, ap, _∙_}
+use mathlib.Core.Bool.{Bool, true, false, cond, and-false}
+use mathlib.Core.List.{List, [], _++_, append-nil}
 use native.Mathlib.Omega.{arith}
 use lib.Dec.{eqb}
 use lib.ListN.{length, take}
 use lib.Seq.{length-take-le}
-use borrow.Author.Tests.{eq-eqb, ne-eqb, eqb-true, eqb-false}
 use Rattle.octets.specs.Octets.{be16, be32}
 use Rattle.octets.specs.Put.{put}
 use Rattle.framing.specs.Framing.{Frame, frame, Frame.short, Frame.long, Frame.whole}
 use Rattle.framing.specs.Engine as eng
-use Rattle.framing.proofs.Framing.{Begins, Begins.no-event, Begins.at-six, Begins.at-end, begins}
+use Rattle.framing.proofs.Framing.{Begins, Begins.at-end, begins}
 use Rattle.framing.proofs.Buffers.{inside, before, take-put}
 use Rattle.framing.proofs.Receive.{receive-dropped, receive-long, receive-whole}
 use Rattle.judging.specs.Pdu.{kindOf, acceptable, whole as isWhole}
@@ -25,18 +24,18 @@ use Rattle.table.proofs.Right.{hears, heard-filled, dropped-blank, inside as in
 use Rattle.association.specs.declared.Assoc.{Assoc}
 use Rattle.association.specs.Record.{dropping}
 use Rattle.association.specs.Refusals.{recordRefusal, refusedWith}
-use Rattle.association.specs.Events.{Local, eventOf, eventOfKind, invalid, numberOf, sendsOf}
-use Rattle.association.specs.Deeds.{Input, brings, acceptsAt, after, entering}
+use Rattle.association.specs.Events.{Local, eventOf, eventOfKind, invalid, numberOf}
+use Rattle.association.specs.Deeds.{Input, brings, acceptsAt, after}
 use Rattle.association.specs.Machine.{upper, doing, onEvent, onLocal, localCell, requestRefusal}
-use Rattle.association.specs.Calls.{Call, call, withCount, lentOf, heard, receiveRefusal, receiveOf, localRefusal, localOf}
-use Rattle.cells.specs.Cells.{Engine, calls, bytesOf, eventBy, pduBy, eventIn, pduIn, Did, Cell, Demand2}
+use Rattle.association.specs.Calls.{call, withCount, lentOf, heard, receiveRefusal, receiveOf, localRefusal, localOf}
+use Rattle.cells.specs.Cells.{calls, bytesOf, eventBy, pduBy, eventIn, pduIn, Did, Demand2}
 use Rattle.cells.specs.Cells as cells
 use Rattle.cells.proofs.Moves.{Received, received-by}
-use Rattle.cells.proofs.Sound.{Sound, entering-state, never}
-use Rattle.cells.proofs.Given.{OwnCell, cell-own}
-use Rattle.cells.proofs.Fine.{Fine, Receives, receives-of, drops-same}
-use Rattle.cells.proofs.Moved.{keeps, next-is}
-use Rattle.cells.proofs.Answered.{received, local-done, Takes, takes-of}
+use Rattle.association.proofs.Sound.{Sound}
+use Rattle.cells.proofs.Sound.{keeps, entering-state, never}
+use Rattle.cells.proofs.Given.{cell-own, next-is}
+use Rattle.cells.proofs.Ready.{Receives, receives-of, drops-same}
+use Rattle.cells.proofs.Answered.{received, local-done, takes-of}
 
 -- ---- the PDU in the gather buffer is the one in the bytes
 pdu-same : (g p : List ℕ) (c n : ℕ) → c ≤ length g → c ≤ n → n ≤ length (take c g ++ p) → take n (put g c (take (n - c) p)) ≡ take n (take c g ++ p)
@@ -89,8 +88,8 @@ module _ (a : Assoc) (g p o : List ℕ) (h : receiveRefusal a g o ≡ 0) (d : dr
       rw (received a g p o h, receive-long upper (lentOf a g o) p (drops-same a 0 ∙ d) e)
       (at-event invalid (6 - a .gathered) 0 0 Input.long (eng.gathering upper (lentOf a g o) (take (6 - a .gathered) p)) [] (accepts-none (cellOf invalid (a .state))))
   heard-by (whole n) e (at-end x y z w t) c =
-      let lg : length (take (a .gathered) g) ≡ a .gathered = length-take-le (a .gathered) g (v .fine .within) in
-      let q : take n (put g (a .gathered) (take (n - a .gathered) p)) ≡ take n (bytesOf a g p) = pdu-same g p (a .gathered) n (v .fine .within) (omega arith) z in
+      let lg : length (take (a .gathered) g) ≡ a .gathered = length-take-le (a .gathered) g (v .within) in
+      let q : take n (put g (a .gathered) (take (n - a .gathered) p)) ≡ take n (bytesOf a g p) = pdu-same g p (a .gathered) n (v .within) (omega arith) z in
       rw (received a g p o h, receive-whole upper (lentOf a g o) p (drops-same a 0 ∙ d) n e, q)
       (at-event (eventOf a (take n (bytesOf a g p))) (n - a .gathered) n 0 (Input.whole (take n (bytesOf a g p)))
       (eng.gathering upper (lentOf a g o) (take (n - a .gathered) p)) (take n (bytesOf a g p)) refl)
@@ -124,7 +123,7 @@ unfolding eventIn pduIn
 brought-at a g p o h d c =
     let r = brought-by a (frame 16384 (bytesOf a g p)) (bytesOf a g p) c in
     heard-by a g p o h (hears-by a (eventBy a (frame 16384 (bytesOf a g p)) (bytesOf a g p)) r c d) (frame 16384 (bytesOf a g p)) refl
-    (begins 16384 (take (a .gathered) g) p (receives-of a g o h .fine .quiet)) c
+    (begins 16384 (take (a .gathered) g) p (receives-of a g o h .quiet)) c
 
 -- ---- a blank cell of a received PDU
 
@@ -146,7 +145,7 @@ dropped-blank-at : (a : Assoc) (g p o : List ℕ) (e : ℕ) → 1 ≤ e → e �
 dropped-blank-at a g p o e e₁ e₂ h r c = dropped-at a g p o h (by (hears (a .state)) refl)
   where
     S : Sound a
-    S = receives-of a g o h .fine .sound
+    S = receives-of a g o h .fine-record .sound
 
     by : (b : Bool) → hears (a .state) ≡ b → dropping a ≡ true
     by true q = absurd (omega (arith, heard-filled e (a .state) e₁ (omega arith) (S .low) (S .high) r q))

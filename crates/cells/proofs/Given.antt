@@ -1,24 +1,23 @@
 -- A local event that gets none of 1, 4, 5 and 2: its cell is filled, what it sends has room, and the record stays sound.
 -- Assumes nothing.
-use Prim.Native.Nat.{ℕ, _+_, _-_, _≤_, _<_}
-use mathlib.Core.Path.{_≡_, refl, sym, ap, _∙_}
+use Prim.Native.Nat.{ℕ, _-_, _≤_, _<_}
+use mathlib.Core.Path.{_≡_, refl, ap, _∙_}
 use mathlib.Core.Bool.{Bool, true, false, cond}
-use mathlib.Core.List.{List, [], _∷_}
+use mathlib.Core.List.{[], _∷_}
 use native.Mathlib.Omega.{arith}
 use lib.Dec.{eqb, leb}
 use lib.ListN.{length}
-use borrow.Author.Tests.{eq-eqb, ne-eqb, eqb-true, eqb-false, le-leb, lt-leb, leb-true}
+use borrow.Author.Tests.{eq-eqb, ne-eqb, le-leb, leb-true}
 use Rattle.laws.specs.Lists.{among}
 use Rattle.writing.specs.Form.{Form, refusalOf, rqForm, acForm, rejectForm, dataForm, mostOf}
-use Rattle.writing.specs.Ten.{tenOf}
 use Rattle.table.specs.Table.{cellOf, isReceived}
 use Rattle.association.specs.declared.Assoc.{Assoc}
 use Rattle.association.specs.Events.{Local, Sends, plainSends, numberOf, sendsOf}
 use Rattle.association.specs.Events.{Local.plain, Local.confirm, Local.accept, Local.reject, Local.send, Sends.own, Sends.bad, Sends.given}
-use Rattle.association.specs.Deeds.{Input}
-use Rattle.association.specs.Deeds.{Input.bare, Input.contents}
-use Rattle.association.specs.Machine.{localCell, localAction, inputOf, formOf, requestRefusal, doing, onEvent, onLocal}
-use Rattle.cells.proofs.Sound.{Sound, sound-bare, sound-contents}
+use Rattle.association.specs.Deeds.{brings, after}
+use Rattle.association.specs.Machine.{localCell, localAction, inputOf, formOf, requestRefusal, doing, onLocal}
+use Rattle.association.proofs.Sound.{Sound}
+use Rattle.cells.proofs.Sound.{keeps, sound-keeps}
 
 -- ---- the cell
 
@@ -135,10 +134,16 @@ sent-by action n a own h = refl
 sent-by action n a bad h = let z : _≡_ {A = ℕ} 0 1 = cc in absurd (omega arith)
 sent-by action n a (given f) h = refl
 
-sound-by : (a : Assoc) (n : ℕ) (s : Sends) → Sound a → isReceived n ≡ false → 0 < cellOf n (a .state) → Sound (onEvent n a (inputOf s) .next)
-sound-by a n own S r f = sound-bare a S n r f
-sound-by a n bad S r f = sound-bare a S n r f
-sound-by a n (given f) S r l = sound-contents a S n r l (f .pdu)
+-- what it brings, whatever it sends
+brings-keeps : (action : ℕ) (a : Assoc) (s : Sends) → brings action a (inputOf s) ≡ keeps a
+brings-keeps action a own = refl
+brings-keeps action a bad = refl
+brings-keeps action a (given f) = refl
+
+-- the record after it
+pub next-is : (a : Assoc) (e : Local) → onLocal a e .next ≡ after (localAction a e) a (keeps a)
+unfolding onLocal doing
+next-is a e = ap (after (localAction a e) a) (brings-keeps (localAction a e) a (sendsOf a e))
 
 module _ (a : Assoc) (e : Local) (room : ℕ) (h : requestRefusal a e room ≡ 0) where
   pub acts : localAction a e ≡ 0 → ⊥
@@ -152,13 +157,11 @@ module _ (a : Assoc) (e : Local) (room : ℕ) (h : requestRefusal a e room ≡ 0
   pub cell-own : OwnCell (numberOf e) (a .state)
   cell-own = own-cell (numberOf e) (a .state) acts
 
-  -- the event at its cell
-  pub as-event : onLocal a e ≡ onEvent (numberOf e) a (inputOf (sendsOf a e))
-  unfolding onLocal onEvent
-  as-event = ap (λ (n : ℕ). doing n (numberOf e) a (inputOf (sendsOf a e))) (cell-own .same)
+  pub next-at : onLocal a e .next ≡ after (cellOf (numberOf e) (a .state)) a (keeps a)
+  next-at = next-is a e ∙ ap (λ (n : ℕ). after n a (keeps a)) (cell-own .same)
 
   pub sound-local : Sound a → Sound (onLocal a e .next)
-  sound-local S = rw as-event (sound-by a (numberOf e) (sendsOf a e) S (cell-own .own) (cell-own .filled))
+  sound-local S = rw next-at (sound-keeps a S (numberOf e) (cell-own .filled) (cell-own .own))
 
   pub sends-form : onLocal a e .sends ≡ formOf (localAction a e) (sendsOf a e) .pdu
   unfolding onLocal

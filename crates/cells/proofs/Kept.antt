@@ -1,10 +1,10 @@
 -- The machine of Table 9-10 keeps the laws that cut independence asks of a machine: its records stay sound, and what it sends has room.
 -- Assumes nothing.
-use Prim.Native.Nat.{ℕ, zero, suc, _+_, _≤_, _<_}
-use mathlib.Core.Path.{_≡_, refl, sym, ap, _∙_, subst}
+use Prim.Native.Nat.{ℕ, _≤_}
+use mathlib.Core.Path.{_≡_, refl, subst}
 use mathlib.Core.Bool.{Bool, true, false, cond}
-use mathlib.Core.Option.{Option, none, some}
-use mathlib.Core.List.{List, []}
+use mathlib.Core.Option.{none, some}
+use mathlib.Core.List.{List}
 use native.Mathlib.Omega.{arith}
 use lib.Dec.{eqb}
 use lib.ListN.{length}
@@ -14,28 +14,16 @@ use Rattle.framing.proofs.Ready.{Kept, Laws}
 use Rattle.writing.specs.Ten.{tenOf}
 use Rattle.association.specs.declared.Assoc.{Assoc}
 use Rattle.association.specs.declared.Brings.{Brings}
-use Rattle.association.specs.Record.{idle, dropping, timed, strayDeaf, mistimed, markedIdle}
+use Rattle.association.specs.Record.{idle, dropping, timed, strayState, overfull, strayDeaf, mistimed, markedIdle, clauses, broken}
 use Rattle.association.specs.Events.{Local, Sends, sendsOf, eventOf, invalid}
 use Rattle.association.specs.Events.{Sends.own, Sends.bad, Sends.given}
-use Rattle.association.specs.Deeds.{Input, brings, after, entering}
+use Rattle.association.specs.Deeds.{after, entering}
 use Rattle.association.specs.Deeds.{Input.whole, Input.long}
 use Rattle.association.specs.Machine.{Seen, inputOf, doing, onEvent, onLocal, requestRefusal, upper}
-use Rattle.cells.proofs.Sound.{Sound, sound-pdu, sound-long}
+use Rattle.association.proofs.Sound.{Sound, sound-of}
+use Rattle.association.proofs.TenLaws.{ten-length}
+use Rattle.cells.proofs.Sound.{sound-pdu, sound-long}
 use Rattle.cells.proofs.Given.{sound-local, sends-room}
-
--- ---- the ten-byte PDUs
-
-pub ten-room : (w : ℕ) → length (tenOf w) ≤ 10
-unfolding tenOf
-ten-room zero = omega arith
-ten-room (suc zero) = omega arith
-ten-room (suc (suc zero)) = omega arith
-ten-room (suc (suc (suc zero))) = omega arith
-ten-room (suc (suc (suc (suc zero)))) = omega arith
-ten-room (suc (suc (suc (suc (suc zero))))) = omega arith
-ten-room (suc (suc (suc (suc (suc (suc zero)))))) = omega arith
-ten-room (suc (suc (suc (suc (suc (suc (suc zero))))))) = omega arith
-ten-room (suc (suc (suc (suc (suc (suc (suc (suc w)))))))) = omega arith
 
 -- ---- a record whose own count is 0, as those of the reference are
 pub record Rests (a : Assoc) : Type 0 where
@@ -43,9 +31,8 @@ pub record Rests (a : Assoc) : Type 0 where
   pub nothing : a .gathered ≡ 0
 
 pub rests-idle : Rests idle
-unfolding idle strayDeaf mistimed markedIdle timed
-rests-idle =
-    record { sound = record { low = omega arith; high = omega arith; deafness = refl; timer = refl; marks = refl }; nothing = refl }
+unfolding idle broken clauses strayState overfull strayDeaf mistimed markedIdle timed dropping
+rests-idle = record { sound = sound-of idle refl; nothing = refl }
 
 entering-none : (r : Assoc) → r .gathered ≡ 0 → entering r .gathered ≡ 0
 unfolding entering
@@ -68,7 +55,7 @@ local-none action n a (given f) h = after-none action a _ h
 -- ---- the laws
 
 few : (w : ℕ) → length (tenOf w) ≤ 16390
-few w = omega (arith, ten-room w)
+few w = omega (arith, ten-length w)
 
 pub kept-pdu : (a : Assoc) (pdu : List ℕ) → Rests a → dropping a ≡ false → Kept upper Rests (onEvent (eventOf a pdu) a (whole pdu))
 unfolding onEvent doing

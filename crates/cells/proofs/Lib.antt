@@ -2,7 +2,7 @@ pub mod Moves
 pub mod Sound
 pub mod Given
 pub mod Kept
-pub mod Fine
+pub mod Ready
 pub mod Moved
 pub mod Answered
 pub mod Cells

@@ -1,43 +1,24 @@
 -- What a local event makes of the record: it keeps the bytes gathered, unless it enters Sta1.
 -- Assumes nothing.
-use Prim.Native.Nat.{ℕ, _≤_, _<_}
-use mathlib.Core.Path.{_≡_, refl, sym, ap, _∙_}
+use Prim.Native.Nat.{ℕ, _<_}
+use mathlib.Core.Path.{_≡_, refl, sym}
 use mathlib.Core.Bool.{Bool, true, false, cond, _||_}
-use mathlib.Core.List.{List, []}
+use mathlib.Core.List.{List}
 use native.Mathlib.Omega.{arith}
 use lib.Dec.{eqb}
-use lib.ListN.{length, take}
 use borrow.Author.Tests.{eq-eqb, ne-eqb, eqb-true, eqb-false}
-use Rattle.framing.specs.Framing.{frame, Frame.short}
-use Rattle.framing.proofs.Framing.{frame-nil}
 use Rattle.table.specs.Table.{cellOf}
 use Rattle.table.specs.Actions.{nextOf, artimOf}
 use Rattle.association.specs.declared.Assoc.{Assoc}
-use Rattle.association.specs.declared.Brings.{Brings}
 use Rattle.association.specs.Record.{dropping}
-use Rattle.association.specs.Events.{Local, Sends, numberOf, sendsOf}
-use Rattle.association.specs.Events.{Local.plain, Local.confirm, Local.accept, Local.reject, Local.send, Sends.own, Sends.bad, Sends.given}
-use Rattle.association.specs.Deeds.{Input, brings, after, entering, requestorAfter}
-use Rattle.association.specs.Machine.{localAction, inputOf, doing, onLocal, requestRefusal}
+use Rattle.association.specs.Events.{Local, numberOf}
+use Rattle.association.specs.Deeds.{after, entering, requestorAfter}
+use Rattle.association.specs.Machine.{onLocal, requestRefusal}
 use Rattle.association.specs.Calls.{withCount}
-use Rattle.cells.proofs.Moves.{not-4}
-use Rattle.cells.proofs.Sound.{Sound, Hears, hears-of, never}
-use Rattle.cells.proofs.Given.{OwnCell, cell-own, sound-local}
-use Rattle.cells.proofs.Fine.{Fine}
-
--- what any local event brings
-abbrev pub keeps : Assoc → Brings
-keeps a = record { accepts = false; «peer_max» = a .«peer_max»; deaf = a .deaf; gathered = a .gathered }
-
-brings-keeps : (action : ℕ) (a : Assoc) (s : Sends) → brings action a (inputOf s) ≡ keeps a
-brings-keeps action a own = refl
-brings-keeps action a bad = refl
-brings-keeps action a (given f) = refl
-
--- the record after it
-pub next-is : (a : Assoc) (e : Local) → onLocal a e .next ≡ after (localAction a e) a (keeps a)
-unfolding onLocal doing
-next-is a e = ap (after (localAction a e) a) (brings-keeps (localAction a e) a (sendsOf a e))
+use Rattle.association.proofs.Sound.{Sound, Fine}
+use Rattle.association.proofs.RefusalLaws.{few-gathered}
+use Rattle.cells.proofs.Sound.{keeps, none-gathered}
+use Rattle.cells.proofs.Given.{next-at, sound-local}
 
 -- the record that enters a state by it
 abbrev entered : ℕ → Assoc → ℕ → Assoc
@@ -81,51 +62,38 @@ module _ (act : ℕ) (a : Assoc) where
   drops-else n = let q : eqb (nextOf act false (a .requestor)) 1 ≡ false = ne-eqb _ 1 n in rw (q, q)
 
 -- where bytes are dropped from now on, none are gathered
-module _ (a : Assoc) (g : List ℕ) (F : Fine a g) (n : ℕ) (f : 0 < cellOf n (a .state)) where
+module _ (a : Assoc) (S : Sound a) (n : ℕ) (f : 0 < cellOf n (a .state)) where
   abbrev act : ℕ
   act = cellOf n (a .state)
-
-  none-else : (b : Bool) → dropping a ≡ b → (nextOf act false (a .requestor) ≡ 1 → ⊥) → (eqb (nextOf act false (a .requestor)) 4 || a .deaf) ≡ true → a .gathered ≡ 0
-  none-else true d m t = F .dropped d
-  none-else false d m t =
-      let h = hears-of a d in
-      let q : (eqb (nextOf act false (a .requestor)) 4 || a .deaf) ≡ false =
-      rw (ne-eqb (nextOf act false (a .requestor)) 4 (not-4 n (a .state) f (h .not-1) false (a .requestor))) (h .hearing) in
-      never _ q t
 
   -- the count is that of the reference, which gathers nothing where bytes are dropped
   pub moved-count : cond (dropping (after act (withCount a 0) (keeps (withCount a 0)))) 0 (a .gathered) ≡ after act a (keeps a) .gathered
   moved-count = by (eqb (nextOf act false (a .requestor)) 1) refl
     where
-      inner : (m : nextOf act false (a .requestor) ≡ 1 → ⊥) (x : Bool) → (eqb (nextOf act false (a .requestor)) 4 || a .deaf) ≡ x → cond x 0 (a .gathered) ≡ a .gathered
-      inner m true e = sym (none-else (dropping a) refl m e)
-      inner m false e = refl
+      inner : (x : Bool) → (eqb (nextOf act false (a .requestor)) 4 || a .deaf) ≡ x → cond x 0 (a .gathered) ≡ a .gathered
+      inner true e = sym (none-gathered a S n f (dropping a) refl e)
+      inner false e = refl
 
       by : (b : Bool) → eqb (nextOf act false (a .requestor)) 1 ≡ b
           → cond (dropping (after act (withCount a 0) (keeps (withCount a 0)))) 0 (a .gathered) ≡ after act a (keeps a) .gathered
       by true e = let q = eqb-true _ _ e in rw (drops-1 act (withCount a 0) q, count-1 act a q)
-      by false e = let q = eqb-false _ _ e in rw (drops-else act (withCount a 0) q, count-else act a q) (inner q _ refl)
+      by false e = let q = eqb-false _ _ e in rw (drops-else act (withCount a 0) q, count-else act a q) (inner _ refl)
 
-  moved-fine : Sound (after act a (keeps a)) → Fine (after act a (keeps a)) g
-  moved-fine S = by (eqb (nextOf act false (a .requestor)) 1) refl
-    where
-      by : (b : Bool) → eqb (nextOf act false (a .requestor)) 1 ≡ b → Fine (after act a (keeps a)) g
-      by true e =
-          let q = count-1 act a (eqb-true _ _ e) in
-          record { sound = S; within = omega (arith, q); quiet = rw q (frame-nil 16384); dropped = λ d. q }
-      by false e =
-          let m = eqb-false _ _ e in
-          let q = count-else act a m in
-          record {
-            sound = S;
-            within = omega (arith, q, F .within);
-            quiet = rw q (F .quiet);
-            dropped = λ d. q ∙ none-else (dropping a) refl m (rw (drops-else act a m) at d);
-          }
+-- a local event leaves a record that is not broken over the gather buffer
+moved-fine : (act : ℕ) (a : Assoc) (g : List ℕ) → Fine a g (a .gathered) → Sound (after act a (keeps a))
+    → Fine (after act a (keeps a)) g (after act a (keeps a) .gathered)
+moved-fine act a g F S = by (eqb (nextOf act false (a .requestor)) 1) refl
+  where
+    by : (b : Bool) → eqb (nextOf act false (a .requestor)) 1 ≡ b → Fine (after act a (keeps a)) g (after act a (keeps a) .gathered)
+    by true e =
+        let q = count-1 act a (eqb-true _ _ e) in
+        record { sound = S; room = omega (arith, q); length-good = rw q (sym (few-gathered 0 g (omega arith))) }
+    by false e =
+        let q = count-else act a (eqb-false _ _ e) in
+        record { sound = S; room = omega (arith, q, F .room); length-good = rw q (F .length-good) }
 
--- a local event leaves a record that is fine over the gather buffer
-pub local-fine : (a : Assoc) (g : List ℕ) (e : Local) (room : ℕ) → Fine a g → requestRefusal a e room ≡ 0 → Fine (onLocal a e .next) g
+pub local-fine : (a : Assoc) (g : List ℕ) (e : Local) (room : ℕ) → Fine a g (a .gathered) → requestRefusal a e room ≡ 0
+    → Fine (onLocal a e .next) g (onLocal a e .next .gathered)
 local-fine a g e room F h =
-    let c = cell-own a e room h in
-    let m : onLocal a e .next ≡ after (cellOf (numberOf e) (a .state)) a (keeps a) = next-is a e ∙ ap (λ (n : ℕ). after n a (keeps a)) (c .same) in
-    rw m (moved-fine a g F (numberOf e) (c .filled) (rw m at (sound-local a e room h (F .sound))))
+    let m = next-at a e room h in
+    rw m (moved-fine (cellOf (numberOf e) (a .state)) a g F (rw m at (sound-local a e room h (F .sound))))

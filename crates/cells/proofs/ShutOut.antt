@@ -7,7 +7,7 @@ use mathlib.Core.List.{[]}
 use native.Mathlib.Omega.{arith}
 use Rattle.laws.specs.Lists.{among}
 use Rattle.writing.specs.Form.{refusalOf}
-use Rattle.writing.specs.Ten.{tenOf}
+use Rattle.writing.specs.Ten.{tens, tenOf}
 use Rattle.framing.specs.Framing.{lengthField}
 use Rattle.table.specs.Names.{AE-1, AE-5}
 use Rattle.table.specs.Table.{table, cellOf, isReceived}
@@ -19,16 +19,16 @@ use Rattle.association.specs.Events.{plainSends, transportIndication, associate
 use Rattle.association.specs.Deeds.{tenBy}
 use Rattle.association.specs.Machine.{localCell, requestRefusal}
 use Rattle.association.specs.Calls.{localRefusal}
-use Rattle.cells.specs.Cells.{Engine, Did, Cell, Demand2}
+use Rattle.cells.specs.Cells.{Engine, Did, Demand2}
 use Rattle.cells.specs.ShutOut.{RefusesAll, SameAction, RecordUntouched}
 
 -- a fresh association, with no byte lent: neither event is refused
 indicated : localRefusal idle [] [] transportIndication ≡ 0
-unfolding localRefusal recordRefusal requestRefusal refusalOf localCell plainSends tenBy tenOf among isReceived cellOf table idle broken clauses strayState overfull strayDeaf mistimed badLength markedIdle dropping timed lengthField
+unfolding localRefusal recordRefusal requestRefusal refusalOf localCell plainSends tenBy tenOf tens among isReceived cellOf table idle broken clauses strayState overfull strayDeaf mistimed badLength markedIdle dropping timed lengthField
 indicated = refl
 
 requested : localRefusal idle [] [] associateRequest ≡ 0
-unfolding localRefusal recordRefusal requestRefusal refusalOf localCell plainSends tenBy tenOf among isReceived cellOf table idle broken clauses strayState overfull strayDeaf mistimed badLength markedIdle dropping timed lengthField
+unfolding localRefusal recordRefusal requestRefusal refusalOf localCell plainSends tenBy tenOf tens among isReceived cellOf table idle broken clauses strayState overfull strayDeaf mistimed badLength markedIdle dropping timed lengthField
 requested = refl
 
 in-1 : idle .state ≡ 1

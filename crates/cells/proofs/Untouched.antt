@@ -1,10 +1,10 @@
 -- "A used byte that isn't dropped goes to the gather buffer behind those gathered; nothing else there changes." "An answered call writes its sent bytes at the start of
 -- the output and changes no byte beyond them." Of every call, refused ones too.
 -- Assumes nothing.
-use Prim.Native.Nat.{ℕ, _+_, _-_, _≤_, _<_}
+use Prim.Native.Nat.{ℕ, _+_, _-_, _≤_}
 use mathlib.Core.Path.{_≡_, refl, sym, ap, _∙_}
-use mathlib.Core.Bool.{Bool, true, false, cond}
-use mathlib.Core.List.{List, [], _∷_, _++_, append-assoc}
+use mathlib.Core.Bool.{Bool, true, false}
+use mathlib.Core.List.{List, [], _++_, append-assoc}
 use native.Mathlib.Omega.{arith}
 use lib.Dec.{eqb}
 use lib.ListN.{length, take, drop, length-append}
@@ -16,18 +16,17 @@ use Rattle.framing.specs.Framing.{Frame, frame, Frame.short, Frame.long, Frame.
 use Rattle.framing.specs.Engine as eng
 use Rattle.framing.proofs.Buffers.{front-length}
 use Rattle.framing.proofs.Receive.{through-fits}
-use Rattle.table.specs.Table.{cellOf}
 use Rattle.association.specs.declared.Assoc.{Assoc}
 use Rattle.association.specs.Record.{dropping}
 use Rattle.association.specs.Refusals.{refusedWith}
-use Rattle.association.specs.Events.{Local, eventOf, invalid}
+use Rattle.association.specs.Events.{Local, invalid}
 use Rattle.writing.specs.Ten.{tenOf}
 use Rattle.association.specs.Deeds.{Input}
 use Rattle.association.specs.Machine.{upper, doing, onEvent, onLocal}
 use Rattle.association.specs.Calls.{Call, call, withCount, lentOf, heard, receiveRefusal, receiveOf, localRefusal, localOf}
-use Rattle.cells.proofs.Kept.{ten-room}
+use Rattle.association.proofs.TenLaws.{ten-length}
 use Rattle.cells.proofs.Given.{sends-room}
-use Rattle.cells.proofs.Fine.{Receives, receives-of}
+use Rattle.cells.proofs.Ready.{Receives, receives-of}
 use Rattle.cells.proofs.Answered.{receive-refused, received, local-refused, local-done, takes-of}
 
 -- a call with c bytes gathered before it and u used left the gather buffer g and the output o as this
@@ -62,15 +61,15 @@ module _ (a : Assoc) (g p o : List ℕ) (v : Receives a g o) where
   gathered-by u bs x hu hc hb eg eo es =
       let k : length (take u p) ≡ u = length-take-le u p hu in
       record {
-        before = rw eg (put-before g (a .gathered) (take u p) (v .fine .within));
-        behind = rw eg (rw k at (put-behind g (a .gathered) (take u p) (v .fine .within)));
-        gather-length = rw eg (put-length g (a .gathered) (take u p) (omega (arith, v .gather-room)));
+        before = rw eg (put-before g (a .gathered) (take u p) (v .within));
+        behind = rw eg (rw k at (put-behind g (a .gathered) (take u p) (v .within)));
+        gather-length = rw eg (put-length g (a .gathered) (take u p) (omega (arith, v .fine-record .room)));
         beyond = rw (es, eo) (front-behind o bs);
         out-length = rw eo (front-length o bs hb);
       }
 
   few : (w : ℕ) → length (tenOf w) ≤ length o
-  few w = omega (arith, ten-room w, v .out-room)
+  few w = omega (arith, ten-length w, v .out-room)
 
   untouched-by : (b : Bool) (f : Frame) → eng.through upper f (a .gathered) p ≤ length p → a .gathered + eng.through upper f (a .gathered) p ≤ 16390
       → Untouched (a .gathered) (eng.receiveBy upper b f (lentOf a g o) p .used) g o (heard (eng.receiveBy upper b f (lentOf a g o) p))
@@ -87,7 +86,7 @@ module _ (a : Assoc) (g p o : List ℕ) (v : Receives a g o) where
   untouched-received : Untouched (a .gathered) (eng.receive upper (lentOf a g o) p .used) g o (heard (eng.receive upper (lentOf a g o) p))
   unfolding eng.receive
   untouched-received =
-      let t = through-fits upper g p (a .gathered) (v .fine .within) (v .fine .quiet) in
+      let t = through-fits upper g p (a .gathered) (v .within) (v .quiet) in
       untouched-by (dropping (withCount a 0)) (frame 16384 (take (a .gathered) g ++ p)) (t .0) (t .1)
 
 untouched-refused : (n c : ℕ) (a : Assoc) (g o : List ℕ) → Untouched c 0 g o (call (refusedWith n a) g o)

@@ -2,7 +2,7 @@
 -- bytes are dropped." For any engine, so that it can also be said of one that does not.
 use Prim.Native.Nat.{ℕ, _≤_, _<_}
 use mathlib.Core.Path.{_≡_}
-use mathlib.Core.Bool.{Bool, true, false}
+use mathlib.Core.Bool.{true, false}
 use mathlib.Core.List.{List, [], _++_}
 use lib.ListN.{length, take}
 use Rattle.framing.specs.Framing.{Frame, frame}

@@ -1,33 +1,31 @@
 -- EVERY CALL that a host makes, from a fresh association on: no record is broken, refusals 6, 3 and 2 never come, and a piece that is not empty is used by a byte or
 -- more.
 -- Assumes nothing.
-use Prim.Native.Nat.{ℕ, _+_, _≤_, _<_}
-use mathlib.Core.Path.{_≡_, refl, sym, ap, _∙_, subst}
-use mathlib.Core.Bool.{Bool, true, false}
-use mathlib.Core.List.{List, [], _∷_, _++_, append-assoc, append-nil}
+use Prim.Native.Nat.{ℕ, _≤_}
+use mathlib.Core.Path.{_≡_, sym, ap, _∙_, subst}
+use mathlib.Core.Bool.{false}
+use mathlib.Core.List.{List, [], _∷_, _++_}
 use native.Mathlib.Omega.{arith}
-use lib.ListN.{length, drop}
+use lib.ListN.{length}
 use Rattle.laws.specs.Lists.{among}
-use Rattle.framing.specs.Runs.{Ran, stop, after}
+use Rattle.framing.specs.Runs.{Ran}
 use Rattle.framing.specs.Host as host
 use Rattle.framing.specs.Host.{One, Item, Heard, Hosted, HostedScript}
 use Rattle.framing.specs.Engine as eng
 use Rattle.framing.proofs.Ready.{Ready}
-use Rattle.framing.proofs.Call.{Called, called, Done, told}
-use Rattle.framing.proofs.Hosts.{Advances, cut-script}
-use Rattle.framing.proofs.Sim.{View, Alike, Same, scripts, items}
-use Rattle.association.specs.declared.Assoc.{Assoc}
+use Rattle.framing.proofs.Call.{called, told}
+use Rattle.framing.proofs.Hosts.{Advances, feed-step, cut-script}
 use Rattle.association.specs.Record.{brokenOver}
 use Rattle.association.specs.Events.{Local}
-use Rattle.association.specs.Machine.{Seen, upper, requestRefusal}
-use Rattle.association.specs.Calls.{Call, withCount, receiveRefusal, receiveOf, localRefusal, localOf}
+use Rattle.association.specs.Machine.{upper, requestRefusal}
+use Rattle.association.specs.Calls.{withCount, receiveOf, localOf}
 use Rattle.cells.proofs.Given.{request-known}
 use Rattle.cells.proofs.Kept.{upper-laws}
-use Rattle.cells.proofs.Fine.{Fine, fine-ready, fine-over, receive-answered}
+use Rattle.cells.proofs.Ready.{fine-ready, fine-over, receive-answered}
 use Rattle.cells.proofs.Calls.{receive-refusal, local-refusal, local-used}
-use Rattle.demand.specs.Calls.{Lent, leaves, fresh, Given, Made, looking, machine, every, refusals}
+use Rattle.demand.specs.Calls.{Lent, leaves, fresh, Made, looking, every}
 use Rattle.demand.specs.Calls.{Given.piece, Given.local}
-use Rattle.demand.specs.Every.{Each, looked, bytesIn, mayGet, Held}
+use Rattle.demand.specs.Every.{Each, Held}
 use Rattle.demand.proofs.Same.{engine, At, hears, does, refused-same}
 use Rattle.demand.proofs.Demand.{at-fresh}
 
@@ -53,7 +51,7 @@ module _ (s : Lent) (r : At s) where
   takes e = record { given = local e; lent = s; call = localOf (s .assoc) (s .gather) (s .out) e }
 
   lent-fine : brokenOver (s .assoc) (s .gather) ≡ false
-  lent-fine = fine-over _ _ (fine-ready _ _ (s .out) r)
+  lent-fine = fine-over _ _ 16390 (fine-ready _ _ (s .out) r)
 
   -- bytes are never refused
   pub never-refused : (p : List ℕ) → receives p .call .answer .told .refusal ≡ 0
@@ -65,7 +63,7 @@ module _ (s : Lent) (r : At s) where
       let k = called upper upper-laws (engine s) p [] r in
       record {
         lent-whole = lent-fine;
-        left-whole = fine-over _ _ (fine-ready _ _ (receives p .call .out) (at-received p));
+        left-whole = fine-over _ _ 16390 (fine-ready _ _ (receives p .call .out) (at-received p));
         refusal = rw (never-refused p);
         at-least = λ h. rw (used-same p) (k .at-least h);
         at-most = rw (used-same p) (k .at-most);
@@ -77,7 +75,7 @@ module _ (s : Lent) (r : At s) where
       let q : takes e .call .answer .told .refusal ≡ requestRefusal (withCount a 0) e 16390 = local-refusal a (s .gather) (s .out) e ∙ refused-same s r e in
       record {
         lent-whole = lent-fine;
-        left-whole = fine-over _ _ (fine-ready _ _ (takes e .call .out) (at-given e));
+        left-whole = fine-over _ _ 16390 (fine-ready _ _ (takes e .call .out) (at-given e));
         refusal = rw q (request-known (withCount a 0) e);
         at-least = λ h. absurd (omega arith);
         at-most = rw (local-used a (s .gather) (s .out) e) (omega arith);
@@ -99,6 +97,10 @@ module _ {T : Type 0} (look : Made → List T) where
         does = λ s c e r. at-given s r e;
       }
 
+  -- what the host's loop is, without its bound: nothing to do, or one call, and then the same with what it did not use
+  pub loop : (c : One) (p : List ℕ) (s : Lent) → At s → host.feed (looking look) c p s ≡ host.feedBy (looking look) c (host.feed (looking look) c) p s
+  loop c p s r = feed-step (looking look) At advances c p s r
+
 module _ (P : Made → Type 0) (bytes : (s : Lent) (p : List ℕ) → At s → P (record { given = piece p; lent = s; call = receiveOf (s .assoc) (s .gather) p (s .out) })) where
   -- a run, given by any host
   pub each-run : {c : One} {s : Lent} {b : List ℕ} {x : Ran Made Lent} → At s → Hosted every c s b x → Each P (x .trace) × At (x .end)
@@ -116,10 +118,14 @@ module _ (P : Made → Type 0) (bytes : (s : Lent) (p : List ℕ) → At s → P
         each-append P (x .trace) (y .trace) (k .0) (each-script (k .1) w)
 
 module _ (is : List (Item One Local)) (g o : List ℕ) (hg : 16390 ≤ length g) (ho : 16390 ≤ length o) where
+  -- the host that cuts is a host, whatever it looks at
+  pub a-host : {T : Type 0} (look : Made → List T) → HostedScript (looking look) (fresh g o) is (host.script (looking look) is (fresh g o))
+  a-host look = cut-script (looking look) At (advances look) is (fresh g o) (at-fresh g o hg ho)
+
   -- by any host
   pub every-call : {x : Ran Made Lent} → HostedScript every (fresh g o) is x → Each Held (x .trace)
   every-call w = each-script Held (λ s p r. held-received s r p) (λ s e r. held-given s r e) (at-fresh g o hg ho) w
 
   -- by the host that cuts
   pub every-cut-call : Each Held (host.script every is (fresh g o) .trace)
-  every-cut-call = every-call (cut-script every At (advances (λ m. m ∷ [])) is (fresh g o) (at-fresh g o hg ho))
+  every-cut-call = every-call (a-host (λ m. m ∷ []))

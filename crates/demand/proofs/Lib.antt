@@ -3,3 +3,6 @@ pub mod Demand
 pub mod Every
 pub mod Looked
 pub mod Refused
+pub mod Data
+pub mod ShutOut
+pub mod Instances

@@ -1,7 +1,7 @@
 -- What a host looks at does not change what is done: its trace is what it looks at of every call, in order, and the end is the same.
 -- Assumes nothing.
 use Prim.Native.Nat.{ℕ}
-use mathlib.Core.Path.{_≡_, refl, sym, ap, _∙_, subst}
+use mathlib.Core.Path.{_≡_, refl, sym, subst}
 use mathlib.Core.List.{List, [], _∷_, _++_, append-assoc, append-nil}
 use Rattle.framing.specs.Runs.{Ran}
 use Rattle.framing.specs.Host as host

@@ -2,15 +2,12 @@
 -- Assumes nothing.
 use Prim.Native.Nat.{ℕ, _≤_}
 use mathlib.Core.Path.{_≡_, refl, sym, ap, _∙_}
-use mathlib.Core.Bool.{Bool, true, false, cond}
 use mathlib.Core.List.{List, [], _∷_, _++_}
-use lib.Dec.{eqb}
 use lib.ListN.{length}
 use Rattle.framing.specs.Runs.{Ran, runs, givens}
 use Rattle.framing.specs.Host as host
 use Rattle.framing.specs.Host.{Entry, One, Item, Item.event, Item.run}
 use Rattle.framing.specs.Reference as ref
-use Rattle.framing.specs.Engine as eng
 use Rattle.framing.proofs.Runs.{runs-one}
 use Rattle.framing.proofs.Call.{Done}
 use Rattle.framing.proofs.Hosts.{cut-run}
@@ -18,11 +15,10 @@ use Rattle.framing.proofs.Sim.{everything, Same, in-step}
 use Rattle.framing.proofs.Instances.{second-cuts}
 use Rattle.association.specs.Record.{idle}
 use Rattle.association.specs.Events.{Local}
-use Rattle.association.specs.Machine.{Seen, upper, requestRefusal}
-use Rattle.association.specs.Calls.{withCount, localOf}
+use Rattle.association.specs.Machine.{Seen, upper}
 use Rattle.cells.proofs.Kept.{upper-laws}
 use Rattle.cells.proofs.Calls.{local-refusal}
-use Rattle.demand.specs.Calls.{Lent, fresh, Made, looking, machine, every, refusals, seenOf, refusalOf, boxOf}
+use Rattle.demand.specs.Calls.{Lent, fresh, Made, machine, every, refusals, seenOf, refusalOf, boxOf}
 use Rattle.demand.specs.Every.{Each, looked}
 use Rattle.demand.specs.Refused.{refusedBy, refusedAt, refusedIn}
 use Rattle.demand.proofs.Same.{engine, At, same-calls, refused-same}

@@ -1,15 +1,15 @@
 -- Call by call, wherever it is ready, the machine answers as the engine of framing does: so refusals 6, 3 and 2 do not come, and what is refused with 1, 4 or 5 is
 -- what the reference leaves out.
 -- Assumes nothing.
-use Prim.Native.Nat.{ℕ, _+_, _-_, _≤_, _<_}
+use Prim.Native.Nat.{ℕ, _-_, _<_}
 use mathlib.Core.Path.{_≡_, refl, sym, ap, _∙_}
 use mathlib.Core.Bool.{Bool, true, false, cond}
-use mathlib.Core.Option.{Option, none, some}
+use mathlib.Core.Option.{none, some}
 use mathlib.Core.List.{List, [], _∷_, _++_}
 use native.Mathlib.Omega.{arith}
 use lib.Dec.{eqb}
 use lib.ListN.{length, take}
-use borrow.Author.Tests.{eq-eqb, ne-eqb, eqb-true, eqb-false}
+use borrow.Author.Tests.{ne-eqb, eqb-true, eqb-false}
 use Rattle.octets.specs.Put.{front}
 use Rattle.framing.specs.Runs.{Ran}
 use Rattle.framing.specs.Framing.{Frame, frame, Frame.short, Frame.long, Frame.whole}
@@ -23,19 +23,20 @@ use Rattle.table.specs.Table.{cellOf}
 use Rattle.judging.specs.Pdu.{kindOf}
 use Rattle.association.specs.declared.Assoc.{Assoc}
 use Rattle.association.specs.Record.{dropping}
-use Rattle.association.specs.Refusals.{recordRefusal, refusedWith}
+use Rattle.association.specs.Refusals.{refusedWith}
 use Rattle.association.specs.Events.{Local, Sends, eventOf, invalid, numberOf, sendsOf}
 use Rattle.association.specs.Events.{Local.plain, Local.confirm, Local.accept, Local.reject, Local.send, Sends.own, Sends.bad, Sends.given}
-use Rattle.association.specs.Deeds.{Input, after}
+use Rattle.association.specs.Deeds.{Input}
 use Rattle.association.specs.Machine.{Seen, upper, localAction, inputOf, doing, onEvent, onLocal, requestRefusal}
-use Rattle.association.specs.Calls.{Call, call, withCount, lentOf, heard, receiveOf, localRefusal, localOf}
-use Rattle.cells.proofs.Sound.{Sound, brought-filled, long-filled}
-use Rattle.cells.proofs.Given.{OwnCell, acts, cell-own, request-roomy}
-use Rattle.cells.proofs.Kept.{Rests, upper-laws}
-use Rattle.cells.proofs.Fine.{Fine, fine-ready, no-refusal, receive-answered}
-use Rattle.cells.proofs.Moved.{keeps, next-is, moved-same, moved-count}
+use Rattle.association.specs.Calls.{Call, call, withCount, lentOf, heard, localRefusal, localOf}
+use Rattle.association.proofs.Sound.{Sound, Fine, not-refused}
+use Rattle.cells.proofs.Sound.{brought-filled, long-filled}
+use Rattle.cells.proofs.Given.{OwnCell, acts, cell-own, next-is, request-roomy}
+use Rattle.cells.proofs.Kept.{upper-laws}
+use Rattle.cells.proofs.Ready.{fine-ready, fine-given, receive-answered}
+use Rattle.cells.proofs.Moved.{moved-same, moved-count}
 use Rattle.cells.proofs.Answered.{received, local-refused, local-done, doneLocal}
-use Rattle.demand.specs.Calls.{Lent, leaves, entryOf, seenOf, machine}
+use Rattle.demand.specs.Calls.{Lent, leaves, seenOf, machine}
 
 -- what is lent, as the engine of framing has it
 abbrev pub engine : Lent → eng.Lent upper
@@ -129,14 +130,14 @@ none-shown true l = refl
 none-shown false l = refl
 
 module _ (s : Lent) (r : At s) (e : Local) where
-  F : Fine (s .assoc) (s .gather)
-  F = fine-ready (s .assoc) (s .gather) (s .out) r
+  F : Fine (s .assoc) (s .gather) (s .assoc .gathered)
+  F = fine-given (s .assoc) (s .gather) (fine-ready (s .assoc) (s .gather) (s .out) r)
 
   -- the refusal is the reference's
   pub refused-same : localRefusal (s .assoc) (s .gather) (s .out) e ≡ requestRefusal (withCount (s .assoc) 0) e 16390
   unfolding localRefusal
   refused-same =
-      rw (no-refusal (s .assoc) (s .gather) F (s .assoc .gathered) (F .within))
+      rw (not-refused (s .assoc) (s .gather) (s .assoc .gathered) F)
       (request-roomy (s .assoc) e (length (s .out)) (r .output) ∙ sym (request-same (s .assoc) e 16390))
 
   abbrev asRan : Call → Ran (Entry Seen) (eng.Lent upper)
@@ -152,7 +153,7 @@ module _ (s : Lent) (r : At s) (e : Local) where
 
     count-same : cond (dropping (onLocal (withCount (s .assoc) 0) e .next)) 0 (s .assoc .gathered) ≡ onLocal (s .assoc) e .next .gathered
     count-same =
-        rw (next-is (withCount (s .assoc) 0) e, next-is (s .assoc) e, c .same) (moved-count (s .assoc) (s .gather) F (numberOf e) (c .filled))
+        rw (next-is (withCount (s .assoc) 0) e, next-is (s .assoc) e, c .same) (moved-count (s .assoc) (F .sound) (numberOf e) (c .filled))
 
     -- what the engine does, and what the machine does
     abbrev acted : eng.Answer upper

@@ -1,11 +1,11 @@
 -- Demand 3: the calls as a host sees them, refusals included, from a fresh association on.
 use Prim.Native.Nat.{ℕ}
 use mathlib.Core.Bool.{cond}
-use mathlib.Core.List.{List, [], _∷_, _++_}
-use lib.ListN.{take}
+use mathlib.Core.List.{List, [], _∷_}
+use lib.ListN.{length, take}
 use lib.Dec.{eqb}
 use Rattle.framing.specs.Runs.{Ran}
-use Rattle.framing.specs.Host.{Entry, One, Calls}
+use Rattle.framing.specs.Host.{Entry, One, Item, Calls}
 use Rattle.framing.specs.Reference as ref
 use Rattle.association.specs.declared.Assoc.{Assoc}
 use Rattle.association.specs.Record.{idle}
@@ -31,6 +31,11 @@ fresh g o = record { assoc = idle; gather = g; out = o }
 pub data Given : Type 0 where
   piece : List ℕ → Given
   local : Local → Given
+
+-- how many bytes
+abbrev pub bytesIn : Given → ℕ
+bytesIn (piece p) = length p
+bytesIn (local e) = 0
 
 -- what it was given, what it was lent, what it answered and left
 pub record Made : Type 0 where
@@ -89,3 +94,7 @@ boxOf s = ref.box upper (withCount (s .assoc) 0) (take (s .assoc .gathered) (s .
 -- what was seen, and the end
 abbrev pub boxed : Ran (Entry Seen) Lent → Ran (Entry Seen) (ref.Box upper)
 boxed x = record { trace = x .trace; end = boxOf (x .end) }
+
+-- what a script is to give: each run framed at once behind the bytes already gathered, its events played by Table 9-10, refused events left out
+abbrev pub wanted : List (Item One Local) → Ran (Entry Seen) (ref.Box upper)
+wanted is = ref.reference upper is (ref.box upper idle [])

@@ -3,10 +3,9 @@ use Prim.Native.Nat.{ℕ, _≤_, _<_}
 use mathlib.Core.Path.{_≡_}
 use mathlib.Core.Bool.{true, false}
 use mathlib.Core.List.{List, [], _∷_, _++_}
-use lib.ListN.{length}
 use Rattle.laws.specs.Lists.{among}
 use Rattle.association.specs.Record.{brokenOver}
-use Rattle.demand.specs.Calls.{Given, Given.piece, Given.local, Made}
+use Rattle.demand.specs.Calls.{Given, Given.piece, Given.local, bytesIn, Made}
 
 -- each of a list
 abbrev pub Each : {X : Type 0} → (X → Type 0) → List X → Type 0
@@ -17,11 +16,6 @@ Each P (x ∷ l) = P x × Each P l
 abbrev pub looked : {X T : Type 0} → (X → List T) → List X → List T
 looked look [] = []
 looked look (m ∷ l) = look m ++ looked look l
-
--- the bytes of the piece
-abbrev pub bytesIn : Given → ℕ
-bytesIn (piece p) = length p
-bytesIn (local e) = 0
 
 -- the refusals that it may get: bytes none, a local event 1, 4 and 5. So 6, 3 and 2 never come
 abbrev pub mayGet : Given → List ℕ

@@ -1,6 +1,5 @@
 -- The engines that demand 3 shuts out, made of the machine's own calls: "the engine that handles the first PDU or the first piece and afterwards only reports bytes
 -- used; and one that reports more bytes used than it gathered or dropped".
-use mathlib.Core.List.{List}
 use Rattle.framing.specs.Host.{Entry, One, Calls}
 use Rattle.framing.specs.ShutOut as out
 use Rattle.association.specs.Events.{Local}
