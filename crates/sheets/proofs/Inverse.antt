@@ -20,9 +20,9 @@ use Rattle.sheets.proofs.RecordLaws.{cap-low, field-length, record-leng
 use Rattle.sheets.proofs.RunLaws.{records-cons, records-none, no-run}
 
 -- a transfer name fits its field, for each result
-pub transfer-short : (result : ℕ) (x : List ℕ) → transferOk result x ≡ true → length x ≤ 64
+pub transfer-fits : (result : ℕ) (x : List ℕ) → transferOk result x ≡ true → length x ≤ 64
 unfolding transferOk
-transfer-short result x e = name-short x e
+transfer-fits result x e = name-short x e
 
 -- ---- a record whose unused bytes are zero is the bytes of what it says
 zeros-are : (l : List ℕ) → all zero? l ≡ true → l ≡ replicate (length l) 0
@@ -339,7 +339,7 @@ unfolding answerSheetOf answeredOk answersIn recordsOf
 answering [] k = record { whole = refl; form = refl; back = refl }
 answering (c ∷ cs) k =
     let o : (odd (c .id) && (leb (c .result) 4 && transferOk (c .result) (c .transfer))) ≡ true = left-of _ _ k in
-    let l = transfer-short (c .result) (c .transfer) (right-of (leb (c .result) 4) _ (right-of (odd (c .id)) _ o)) in
+    let l = transfer-fits (c .result) (c .transfer) (right-of (leb (c .result) 4) _ (right-of (odd (c .id)) _ o)) in
     answering-row c (answerSheetOf cs) cs l (answering cs (right-of (answeredOk c) _ k))
 
 module _ (cs : List Answered) (k : allAnsweredOk cs ≡ true) where

@@ -10,7 +10,7 @@ use lib.ListN.{length, take, drop, getD, set, replicate, length-append, length-r
 use lib.Seq.{take-at, drop-append-add, length-take-le, take-all}
 use lib.Dec.{leb, eqb}
 use borrow.Author.Needs.{needs}
-use borrow.Author.Tests.{le-leb, lt-leb, eq-eqb, ne-eqb}
+use borrow.Author.Tests.{le-leb, lt-leb, eq-eqb, ne-eqb, leb-true}
 use Rattle.laws.specs.Lists.{sameBytes}
 use Rattle.octets.specs.Put.{put, Placed}
 use Rattle.octets.proofs.PutLaws.{put-out, put-length}
@@ -112,6 +112,34 @@ pub part-long : (s : List ℕ) (at n : ℕ) → at + n ≤ length s → length (
 part-long s at n h = rw add-sub-cancel-left (length-take-le n (drop at s) (omega (arith, length-drop at s)))
 
 pub ruleset part-laws = (needs, part-is, part-long, abstract-is, transfer-is)
+
+-- a name that a record gives fits its field
+cap-most : (n : ℕ) → cap n ≤ 64
+unfolding cap
+cap-most n = go (leb n 64) refl
+  where
+    go : (b : Bool) → leb n 64 ≡ b → cond b n 64 ≤ 64
+    go true q = leb-true n 64 q
+    go false q = omega arith
+
+cut-at : (n : ℕ) (l : List ℕ) → length (take (cap n) l) ≤ 64
+cut-at n l = let c = cap-most n in omega (arith, length-take (cap n) l)
+
+pub abstract-short : (s : List ℕ) (at : ℕ) → length (abstractAt s at) ≤ 64
+unfolding abstractAt abstractOf
+abstract-short s at = go (leb (at + 132) (length s))
+  where
+    go : (b : Bool) → length (cond b (take (cap (getD (recordAt s at) 2 0)) (drop 4 (recordAt s at))) []) ≤ 64
+    go true = cut-at (getD (recordAt s at) 2 0) (drop 4 (recordAt s at))
+    go false = omega arith
+
+pub transfer-short : (s : List ℕ) (at : ℕ) → length (transferAt s at) ≤ 64
+unfolding transferAt transferOf
+transfer-short s at = go (leb (at + 132) (length s))
+  where
+    go : (b : Bool) → length (cond b (take (cap (getD (recordAt s at) 3 0)) (drop 68 (recordAt s at))) []) ≤ 64
+    go true = cut-at (getD (recordAt s at) 3 0) (drop 68 (recordAt s at))
+    go false = omega arith
 
 -- ---- the record at a place
 module _ (s : List ℕ) (at : ℕ) where

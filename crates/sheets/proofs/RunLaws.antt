@@ -13,7 +13,7 @@ use borrow.Author.Tests.{le-leb, lt-leb, eq-eqb, ne-eqb, leb-true, leb-false, eq
 use Rattle.laws.specs.Lists.{records, sameBytes, among, distinct}
 use Rattle.laws.proofs.Booleans.{left-of, held}
 use Rattle.sheets.specs.Contexts.{Context, contextId}
-use Rattle.sheets.specs.Sheet.{recordId, abstractOf, recordsOf, goesOn, others, start, runs, contextsIn}
+use Rattle.sheets.specs.Sheet.{recordId, abstractOf, recordsOf, goesOn, others, start, runs, contextsIn, answeredOf, answersIn}
 use Rattle.sheets.specs.Record.{recordAt, goesOnAt}
 use Rattle.sheets.specs.Parts.{idsIn}
 use Rattle.sheets.proofs.RecordLaws.{abstract-here}
@@ -40,7 +40,18 @@ pub contexts-none : (s : List ℕ) (at : ℕ) → length s < at + 132 → contex
 unfolding contextsIn runs
 contexts-none s at h = rw (records-none (drop at s) (omega (arith, length-drop at s)))
 
--- the ID of the record at a place
+pub answers-here : (s : List ℕ) (at : ℕ) → at + 132 ≤ length s → answersIn (drop at s) ≡ answeredOf (recordAt s at) ∷ answersIn (drop (at + 132) s)
+unfolding answersIn
+answers-here s at h = rw (record-here s at h)
+
+pub answers-none : (s : List ℕ) (at : ℕ) → length s < at + 132 → answersIn (drop at s) ≡ []
+unfolding answersIn
+answers-none s at h = rw (records-none (drop at s) (omega (arith, length-drop at s)))
+
+-- the first two bytes of the record at a place
+pub result-here : (s : List ℕ) (at : ℕ) → getD (recordAt s at) 1 0 ≡ getD s (at + 1) 0
+result-here s at = getD-take 132 (drop at s) 1 0 (omega arith) ∙ getD-drop at s 1 0
+
 pub id-here : (s : List ℕ) (at : ℕ) → getD (recordAt s at) 0 0 ≡ getD s at 0
 id-here s at = getD-take 132 (drop at s) 0 0 (omega arith) ∙ (getD-drop at s 0 0 ∙ ap (λ (n : ℕ). getD s n 0) (omega arith))
 

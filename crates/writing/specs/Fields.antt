@@ -37,6 +37,22 @@ pub record Abort : Type 0 where
   pub source : ℕ
   pub reason : ℕ
 
+-- each from the arguments of its call
+abbrev pub rqOf : List ℕ → List ℕ → List ℕ → List ℕ → RqFields
+rqOf called calling application sheet = record { called = called; calling = calling; application = application; sheet = sheet }
+
+abbrev pub acOf : List ℕ → List ℕ → List ℕ → AcFields
+acOf echoed application sheet = record { echoed = echoed; application = application; sheet = sheet }
+
+abbrev pub rejectOf : ℕ → ℕ → ℕ → Reject
+rejectOf result source reason = record { result = result; source = source; reason = reason }
+
+abbrev pub itemsOf : List ℕ → Items
+itemsOf items = record { items = items }
+
+abbrev pub abortOf : ℕ → ℕ → Abort
+abortOf source reason = record { source = source; reason = reason }
+
 -- ---- which are good
 
 -- "Other local titles and names .. follow the rules above."

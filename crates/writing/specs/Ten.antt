@@ -28,10 +28,9 @@ RELEASE-RQ = 6
 abbrev pub RELEASE-RP : ℕ
 RELEASE-RP = 7
 
--- its bytes: none for 0 and above 7
-unfoldable pub tenOf : ℕ → List ℕ
-tenOf which =
-    getD (
+-- in this order
+unfoldable pub tens : List (List ℕ)
+tens =
     []
     ∷ (0x07 ∷ 0 ∷ 0 ∷ 0 ∷ 0 ∷ 4 ∷ 0 ∷ 0 ∷ 0 ∷ 0 ∷ [])  -- A-ABORT, source 0
     ∷ (0x07 ∷ 0 ∷ 0 ∷ 0 ∷ 0 ∷ 4 ∷ 0 ∷ 0 ∷ 2 ∷ 1 ∷ [])  -- A-ABORT, source 2: unrecognized PDU
@@ -41,7 +40,10 @@ tenOf which =
     ∷ (0x05 ∷ 0 ∷ 0 ∷ 0 ∷ 0 ∷ 4 ∷ 0 ∷ 0 ∷ 0 ∷ 0 ∷ [])  -- A-RELEASE-RQ
     ∷ (0x06 ∷ 0 ∷ 0 ∷ 0 ∷ 0 ∷ 4 ∷ 0 ∷ 0 ∷ 0 ∷ 0 ∷ [])  -- A-RELEASE-RP
     ∷ []
-    ) which []
+
+-- the bytes of a number: none for 0 and above 7
+unfoldable pub tenOf : ℕ → List ℕ
+tenOf which = getD tens which []
 
 -- an A-ASSOCIATE-RJ and an A-ABORT with these values
 unfoldable pub rejectBytes : ℕ → ℕ → ℕ → List ℕ

@@ -1,4 +1,15 @@
-// Writes the seven PDUs, each in its one form, into a lent output.
+// Writes the ten-byte PDUs and a P-DATA-TF, each in its one form, into a lent output. (`associate` writes an RQ and an AC.)
+mod data;
+mod pieces;
+mod ten;
+
+pub use data::write_data;
+pub use ten::ten_len;
+pub use ten::write_abort;
+pub use ten::write_reject;
+pub use ten::write_release_request;
+pub use ten::write_release_response;
+pub use ten::write_ten;
 
 // What a writing call answers: 0 or the paper's refusal number; the bytes sent.
 pub struct Sent {

@@ -1,0 +1,6 @@
+pub mod PutLaws
+pub mod FormLaws
+pub mod TenLaws
+pub mod DataLaws
+pub mod Agree
+pub mod Examples
