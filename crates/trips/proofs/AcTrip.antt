@@ -13,6 +13,7 @@ use Rattle.laws.proofs.Booleans.{left-of, right-of, both-of}
 use Rattle.names.specs.Name.{nameOk}
 use Rattle.contents.specs.Contents.{odd, good21H, contextGood, itemsOk}
 use Rattle.judging.specs.Pdu.{versionOf, topItems, acceptOk, validAs, kindOf, maximumOf}
+use Rattle.judging.proofs.KindLaws.{kind-of-valid}
 use Rattle.sheets.specs.Contexts.{answeredId, answeredOk, allAnsweredOk}
 use Rattle.sheets.specs.Sheet.{answersIn, answerSheetOf, answersOk}
 use Rattle.sheets.proofs.Inverse.{answers-answered, answer-sheet-back}
@@ -23,7 +24,7 @@ use Rattle.writing.specs.Form.{acForm}
 use Rattle.trips.specs.Trips.{AcTrip, readOf}
 use Rattle.trips.proofs.ContextTrip.{Answers, answers-trip}
 use Rattle.trips.proofs.FrameTrip.{Fits, items-small, frame-kind, frame-version, frame-whole, frame-68, at-middle, at-application, at-place, at-bodies, at-maximum, frame-items-ok}
-use Rattle.trips.proofs.KindTrip.{kind-is, maximum-2, read-is, filled-is}
+use Rattle.trips.proofs.KindTrip.{maximum-2, read-is, filled-is}
 
 module _ (f : AcFields) (g : acGood f ≡ true) (limit : length (acForm f .pdu) - 6 ≤ 16384) where
   parts : (eqb (length (f .echoed)) 64 && (nameOk (f .application) && answersOk (f .sheet))) ≡ true
@@ -68,7 +69,7 @@ module _ (f : AcFields) (g : acGood f ≡ true) (limit : length (acForm f .pdu) 
   valid : kindOf (frameBytes (acFrame f)) ≡ 2
   unfolding validAs acceptOk acFrame
   valid =
-      kind-is 2 (frameBytes (acFrame f)) (frame-kind (acFrame f) fits) (frame-whole (acFrame f) fits) (both-of _ _ (frame-68 (acFrame f) fits) (both-of _ _ (ap odd version) items-ok))
+      kind-of-valid (frameBytes (acFrame f)) 2 (frame-whole (acFrame f) fits) (frame-kind (acFrame f) fits) (both-of _ _ (frame-68 (acFrame f) fits) (both-of _ _ (ap odd version) items-ok))
 
   answers-at : answered (frameBytes (acFrame f)) ≡ answersIn (f .sheet)
   unfolding answered acFrame
@@ -118,5 +119,5 @@ module _ (f : AcFields) (g : acGood f ≡ true) (limit : length (acForm f .pdu) 
         application = application-at;
         answers = answers-at;
         read = λ room h. read-is 2 (frameBytes (acFrame f)) is-2 room (roomy room h) ∙ fields-at;
-        sheet = λ room h. filled-is 2 (frameBytes (acFrame f)) is-2 room (roomy room h) ∙ sheet-at
+        sheet = λ room h. filled-is 2 (frameBytes (acFrame f)) is-2 room (roomy room h) ∙ sheet-at;
       }

@@ -85,7 +85,7 @@ contexts-trip (c ∷ cs) k h =
     record {
       back = λ i. b i ∷ r .back i;
       good = both-of _ _ (context-good c (left-of _ _ k) (omega arith)) (r .good);
-      ids = λ i. c .id ∷ r .ids i
+      ids = λ i. c .id ∷ r .ids i;
     }
 
 pub record Answers (cs : List Answered) : Type 0 where
@@ -103,5 +103,5 @@ answers-trip (c ∷ cs) k h =
     record {
       back = λ i. b i ∷ r .back i;
       good = both-of _ _ (answer-good c (left-of _ _ k) (omega arith)) (r .good);
-      ids = λ i. c .id ∷ r .ids i
+      ids = λ i. c .id ∷ r .ids i;
     }

@@ -1,4 +1,4 @@
--- A whole PDU of a type whose contents are good is of that kind; and what the reading calls answer where the kind is known.
+-- What the reading calls answer where the kind of a PDU is known.
 -- Assumes nothing.
 use Prim.Native.Nat.{ℕ, _+_, _≤_}
 use mathlib.Core.Bool.{Bool, true, false, _&&_, _||_, cond}
@@ -7,15 +7,10 @@ use mathlib.Core.Path.{_≡_, refl, sym, ap, _∙_}
 use lib.ListN.{length}
 use lib.Dec.{leb, eqb}
 use borrow.Author.Tests.{le-leb}
-use Rattle.laws.proofs.Booleans.{both-of}
 use Rattle.contents.specs.Contents.{maximumIn}
-use Rattle.judging.specs.Pdu.{typeOf, topItems, whole, validAs, kindOf, maximumOf}
+use Rattle.judging.specs.Pdu.{topItems, kindOf, maximumOf}
 use Rattle.reading.specs.Associate.{sheetIn, refused, fieldsOf, associateOf, filling}
 use Rattle.reading.specs.declared.associate.Associate.{Associate}
-
-pub kind-is : (t : ℕ) (pdu : List ℕ) → typeOf pdu ≡ t → whole pdu ≡ true → validAs t pdu ≡ true → kindOf pdu ≡ t
-unfolding kindOf
-kind-is t pdu e w v = rw (w, e, v)
 
 pub maximum-1 : (pdu : List ℕ) → kindOf pdu ≡ 1 → maximumOf pdu ≡ maximumIn (topItems pdu)
 unfolding maximumOf

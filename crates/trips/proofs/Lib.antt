@@ -6,3 +6,5 @@ pub mod AcTrip
 pub mod SmallTrip
 pub mod SentTrip
 pub mod MetTrip
+pub mod Share
+pub mod Again

@@ -51,6 +51,14 @@ in-three st a b c i P x y z = go (eqb st a) (eqb st b) (eqb st c) refl refl refl
     go false false true p q r k = rw (eqb-true st c r) z
     go false false false p q r k = absurd (held false k)
 
+in-four : (st a b c d : ℕ) → among st (a ∷ b ∷ c ∷ d ∷ []) ≡ true → (P : ℕ → Type 0) → P a → P b → P c → P d → P st
+unfolding among
+in-four st a b c d i P x y z v = go (eqb st a) refl i
+  where
+    go : (e : Bool) → eqb st a ≡ e → (e || among st (b ∷ c ∷ d ∷ [])) ≡ true → P st
+    go true p k = rw (eqb-true st a p) x
+    go false p k = in-three st b c d k P y z v
+
 -- ---- in a 20H: 0 and 9 before the 30H, 0, 1 and 9 before a 40H
 sub-30 : (st u : ℕ) → among st (0 ∷ 9 ∷ []) ≡ true → eqb u 0x30 ≡ false → among (subNext st u) (0 ∷ 9 ∷ []) ≡ true
 unfolding subNext among
@@ -60,6 +68,7 @@ sub-30 st u i n = in-two st 0 9 i (λ s. among (subNext s u) (0 ∷ 9 ∷ []) �
     go true b e = absurd (held false (sym e))
     go false true e = refl
     go false false e = refl
+
     go₉ : (a b : Bool) → a ≡ false → among (cond a 9 (cond b 9 9)) (0 ∷ 9 ∷ []) ≡ true
     go₉ true b e = absurd (held false (sym e))
     go₉ false true e = refl
@@ -82,7 +91,7 @@ pub some-40 : (w : Walk) → keeps subRule 0 w ≡ true → leb 1 (length (bodie
 unfolding among
 some-40 w k = met subRule 0x40 (0 ∷ 1 ∷ 9 ∷ []) refl sub-40 0 w refl k
 
--- ---- at the top: 0 and 9 before the 10H, 0, 1 and 9 before a context
+-- ---- at the top: 0 and 9 before the 10H, 0, 1 and 9 before a context, 0, 1, 2 and 9 before the 50H
 module _ (k : ℕ) where
   top-10 : (st u : ℕ) → among st (0 ∷ 9 ∷ []) ≡ true → eqb u 0x10 ≡ false → among (topNext k st u) (0 ∷ 9 ∷ []) ≡ true
   unfolding topNext among
@@ -113,3 +122,20 @@ module _ (k : ℕ) where
   pub some-context : (w : Walk) → keeps (topRule k) 0 w ≡ true → leb 1 (length (bodies k w)) ≡ true
   unfolding among
   some-context w h = met (topRule k) k (0 ∷ 1 ∷ 9 ∷ []) refl top-k 0 w refl h
+
+  top-50 : (st u : ℕ) → among st (0 ∷ 1 ∷ 2 ∷ 9 ∷ []) ≡ true → eqb u 0x50 ≡ false → among (topNext k st u) (0 ∷ 1 ∷ 2 ∷ 9 ∷ []) ≡ true
+  unfolding topNext among
+  top-50 st u i n =
+      in-four st 0 1 2 9 i (λ s. among (topNext k s u) (0 ∷ 1 ∷ 2 ∷ 9 ∷ []) ≡ true) (go 1 9 9 0 (eqb u 0x10) (eqb u k) (eqb u 0x50) refl refl refl n) (go 9 2 9 1 (eqb u 0x10) (eqb u k) (eqb u 0x50) refl refl refl n)
+      (go 9 2 3 2 (eqb u 0x10) (eqb u k) (eqb u 0x50) refl refl refl n) (go 9 9 9 9 (eqb u 0x10) (eqb u k) (eqb u 0x50) refl refl refl n)
+    where
+      go : (x y v z : ℕ) (a b c : Bool) → among x (0 ∷ 1 ∷ 2 ∷ 9 ∷ []) ≡ true → among y (0 ∷ 1 ∷ 2 ∷ 9 ∷ []) ≡ true → among z (0 ∷ 1 ∷ 2 ∷ 9 ∷ []) ≡ true → c ≡ false
+          → among (cond a x (cond b y (cond c v z))) (0 ∷ 1 ∷ 2 ∷ 9 ∷ []) ≡ true
+      go x y v z true b c p q r e = p
+      go x y v z false true c p q r e = q
+      go x y v z false false true p q r e = absurd (held false (sym e))
+      go x y v z false false false p q r e = r
+
+  pub some-50 : (w : Walk) → keeps (topRule k) 0 w ≡ true → leb 1 (length (bodies 0x50 w)) ≡ true
+  unfolding among
+  some-50 w h = met (topRule k) 0x50 (0 ∷ 1 ∷ 2 ∷ 9 ∷ []) refl top-50 0 w refl h

@@ -16,6 +16,7 @@ use Rattle.names.proofs.TitleLaws.{title-sixteen}
 use Rattle.items.specs.Items.{walk, bodies, first}
 use Rattle.contents.specs.Contents.{odd, good20H, contextGood, bodyId, itemsOk}
 use Rattle.judging.specs.Pdu.{typeOf, pduLength, versionOf, calledOf, callingOf, topItems, whole, requestOk, validAs, kindOf, acceptable, maximumOf}
+use Rattle.judging.proofs.KindLaws.{kind-of-valid}
 use Rattle.sheets.specs.Contexts.{Context, contextId, contextOk, contextsOk}
 use Rattle.sheets.specs.Sheet.{contextsIn, sheetOf, proposalOk}
 use Rattle.sheets.proofs.Inverse.{proposal-contexts, proposal-back}
@@ -26,7 +27,7 @@ use Rattle.writing.specs.Form.{rqForm}
 use Rattle.trips.specs.Trips.{RqTrip, readOf}
 use Rattle.trips.proofs.ContextTrip.{Contexts, contexts-trip}
 use Rattle.trips.proofs.FrameTrip.{Fits, items-small, frame-kind, frame-version, frame-whole, frame-68, at-application, at-place, at-bodies, at-maximum, frame-items-ok}
-use Rattle.trips.proofs.KindTrip.{kind-is, maximum-1, read-is, filled-is}
+use Rattle.trips.proofs.KindTrip.{maximum-1, read-is, filled-is}
 
 -- the titles, in front of the rest of a PDU
 module _ (c d z v : List ℕ) (h : length c ≡ 16) (l : length d ≡ 16) where
@@ -108,7 +109,7 @@ module _ (f : RqFields) (g : rqGood f ≡ true) (limit : length (rqForm f .pdu) 
   valid : kindOf (frameBytes (rqFrame f)) ≡ 1
   unfolding validAs requestOk rqFrame
   valid =
-      kind-is 1 (frameBytes (rqFrame f)) (frame-kind (rqFrame f) fits) (frame-whole (rqFrame f) fits)
+      kind-of-valid (frameBytes (rqFrame f)) 1 (frame-whole (rqFrame f) fits) (frame-kind (rqFrame f) fits)
       (both-of _ _ (frame-68 (rqFrame f) fits) (both-of _ _ (ap titleOk called-at ∙ called-ok) (both-of _ _ (ap titleOk calling-at ∙ calling-ok) items-ok)))
 
   version : versionOf (frameBytes (rqFrame f)) ≡ 1
@@ -160,5 +161,5 @@ module _ (f : RqFields) (g : rqGood f ≡ true) (limit : length (rqForm f .pdu) 
         application = application-at;
         contexts = contexts-at;
         read = λ room h. read-is 1 (frameBytes (rqFrame f)) is-1 room (roomy room h) ∙ fields-at;
-        sheet = λ room h. filled-is 1 (frameBytes (rqFrame f)) is-1 room (roomy room h) ∙ sheet-at
+        sheet = λ room h. filled-is 1 (frameBytes (rqFrame f)) is-1 room (roomy room h) ∙ sheet-at;
       }

@@ -15,6 +15,7 @@ use Rattle.contents.specs.Contents.{odd}
 use Rattle.judging.specs.Values.{rejectOk, abortOk}
 use Rattle.judging.specs.Data.{Pdv, pdvs, size, pdvOk, pdvsOk}
 use Rattle.judging.specs.Pdu.{whole, rejectPduOk, dataOk, releaseOk, abortPduOk, validAs, kindOf}
+use Rattle.judging.proofs.KindLaws.{kind-of-valid}
 use Rattle.reading.specs.Values.{rejectOf, abortOf}
 use Rattle.reading.specs.Data.{pdvsOf}
 use Rattle.writing.specs.Fields.{Reject, Items, Abort, rejectGood, itemsGood, abortGood}
@@ -23,13 +24,12 @@ use Rattle.writing.specs.Wire.{pduBytes}
 use Rattle.writing.specs.Form.{rejectForm, mostOf, dataForm, releaseRqForm, releaseRpForm, abortForm}
 use Rattle.trips.specs.Trips.{RejectTrip, AbortTrip, DataTrip}
 use Rattle.trips.proofs.FrameTrip.{pdu-whole, pdu-long}
-use Rattle.trips.proofs.KindTrip.{kind-is}
 
 -- ---- RJ
 module _ (result source reason : ℕ) (g : rejectOk result source reason ≡ true) where
   reject-kind : kindOf (rejectBytes result source reason) ≡ 3
   unfolding rejectBytes whole validAs rejectPduOk be32 be16
-  reject-kind = kind-is 3 (rejectBytes result source reason) refl refl g
+  reject-kind = kind-of-valid (rejectBytes result source reason) 3 refl refl g
 
   reject-read : rejectOf (rejectBytes result source reason) ≡ record { refusal = 0; result = result; source = source; reason = reason }
   unfolding rejectOf rejectBytes
@@ -48,7 +48,7 @@ sent-abort source reason false e g = g
 module _ (source reason : ℕ) (g : abortOk source reason ≡ true) where
   abort-kind : kindOf (abortBytes source reason) ≡ 7
   unfolding abortBytes whole validAs abortPduOk be32 be16
-  abort-kind = kind-is 7 (abortBytes source reason) refl refl g
+  abort-kind = kind-of-valid (abortBytes source reason) 7 refl refl g
 
   abort-read : abortOf (abortBytes source reason) ≡ record { refusal = 0; source = source; reason = reason }
   unfolding abortOf abortBytes
@@ -100,4 +100,4 @@ unfolding dataForm itemsGood validAs dataOk pduBytes pdvsOf
 data-trip peer f g h =
     let m = most-low peer in
     let l = pdu-long 0x04 (f .items) in
-    record { kind = kind-is 4 (pduBytes 0x04 (f .items)) refl (pdu-whole 0x04 (f .items) (omega arith)) (received (f .items) g); body = refl; read = refl }
+    record { kind = kind-of-valid (pduBytes 0x04 (f .items)) 4 (pdu-whole 0x04 (f .items) (omega arith)) refl (received (f .items) g); body = refl; read = refl }
