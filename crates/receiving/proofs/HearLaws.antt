@@ -19,14 +19,13 @@ use Rattle.association.specs.Events.{eventOf, invalid}
 use Rattle.association.specs.Deeds.{Input.whole, Input.long}
 use Rattle.association.specs.Machine.{onEvent}
 use Rattle.association.specs.Calls.{call, receiveRefusal, receiveOf}
-use Rattle.receiving.specs.Steps.{quietOf}
 use Rattle.receiving.proofs.Opened.{Open, opened}
 use Rattle.receiving.proofs.Ways.{receive-refused, way-dropped, way-short, way-long, way-whole}
 use Rattle.receiving.specs.declared.gather.Head.{Head}
 use Rattle.receiving.specs.declared.gather.Head.the-variants.{Short, Long, Whole}
 use Rattle.receiving.specs.declared.gather.Got.{Got}
 use Rattle.receiving.specs.Gathering.{headOf, usedOf, Fit, Gathered}
-use Rattle.receiving.specs.Steps.{Did}
+use Rattle.receiving.specs.Steps.{Did, quietOf}
 
 module _ (a : Assoc) (g o : List ℕ) (num : ℕ) (en : num ≡ receiveRefusal a g o) where
   pub refused-at : (p : List ℕ) (r : Answer) → (num ≡ 0 → ⊥) → r ≡ refusedWith num a → call r g o ≡ receiveOf a g p o
