@@ -21,9 +21,10 @@ use Rattle.association.specs.declared.Brings.{Brings}
 use Rattle.association.specs.Events.{eventOfKind, eventOf, invalid}
 use Rattle.association.specs.Deeds.{Input, Input.whole, Input.long, acceptsAt, peerAt, brings, after, abortFor, tenBy}
 use Rattle.association.specs.Machine.{Seen, doing, onEvent}
+use Rattle.association.specs.Steps.{tellOf}
 use Rattle.association.proofs.TenLaws.{ten-length, ten-out, ten-count}
 use Rattle.receiving.specs.declared.deeds.Deed.{Deed}
-use Rattle.receiving.specs.Steps.{doneOf, Acted, toldOf, tellOf, Did}
+use Rattle.receiving.specs.Steps.{doneOf, Acted, toldOf, Did}
 
 pub kind-event : (a : Assoc) (p : List ℕ) (k r : ℕ) → k ≡ kindOf p → r ≡ eventOfKind k → r ≡ eventOf a p
 unfolding eventOf
