@@ -1,9 +1,5 @@
-pub mod Tables
-pub mod Sound
-pub mod Keeps
-pub mod Ways
-pub mod CallLaws
-pub mod Demand2
-pub mod TenLaws
 pub mod RefusalLaws
 pub mod DeedLaws
+pub mod TenLaws
+pub mod MarkLaws
+pub mod Agree

@@ -72,16 +72,3 @@ localOf a g o e =
       gather = g;
       out = front o (x .sends);
     })
-
--- ---- any call: a piece of received bytes, or a local event
-pub data Given : Type 0 where
-  piece : List ℕ → Given
-  local : Local → Given
-
-abbrev pub refusalTo : Assoc → List ℕ → List ℕ → Given → ℕ
-refusalTo a g o (piece p) = receiveRefusal a g o
-refusalTo a g o (local e) = localRefusal a g o e
-
-abbrev pub callOf : Assoc → List ℕ → List ℕ → Given → Call
-callOf a g o (piece p) = receiveOf a g p o
-callOf a g o (local e) = localOf a g o e

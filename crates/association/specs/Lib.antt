@@ -4,5 +4,3 @@ pub mod Events
 pub mod Deeds
 pub mod Machine
 pub mod Calls
-pub mod Steps
-pub mod Cells

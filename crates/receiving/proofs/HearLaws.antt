@@ -19,9 +19,9 @@ use Rattle.association.specs.Events.{eventOf, invalid}
 use Rattle.association.specs.Deeds.{Input.whole, Input.long}
 use Rattle.association.specs.Machine.{onEvent}
 use Rattle.association.specs.Calls.{call, receiveRefusal, receiveOf}
-use Rattle.association.specs.Steps.{quietOf}
-use Rattle.association.proofs.Sound.{quiet-of}
-use Rattle.association.proofs.Ways.{Open, opened, receive-refused, way-dropped, way-short, way-long, way-whole}
+use Rattle.receiving.specs.Steps.{quietOf}
+use Rattle.receiving.proofs.Opened.{Open, opened}
+use Rattle.receiving.proofs.Ways.{receive-refused, way-dropped, way-short, way-long, way-whole}
 use Rattle.receiving.specs.declared.gather.Head.{Head}
 use Rattle.receiving.specs.declared.gather.Head.the-variants.{Short, Long, Whole}
 use Rattle.receiving.specs.declared.gather.Got.{Got}
@@ -43,9 +43,7 @@ module _ (a : Assoc) (g o : List ℕ) (num : ℕ) (en : num ≡ receiveRefusal a
     ten-at = O .ten
 
     pub fit-at : Fit g (a .gathered)
-    fit-at =
-        let w : a .gathered ≤ length g = omega (arith, O .fine .sound .few, O .fine .room) in
-        record { room = O .fine .room; within = w; quiet = quiet-of (a .gathered) g w (O .fine .length-good) }
+    fit-at = O .fit
 
     pub dropped-at : (p : List ℕ) (x : Bool) (r : Answer) → x ≡ dropping a → x ≡ true → r ≡ quietOf a (a .gathered) (length p) → call r g o ≡ receiveOf a g p o
     dropped-at p x r ex t er = rw er (sym (way-dropped a g p o z (sym ex ∙ t)))

@@ -7,7 +7,7 @@ use association::Assoc;
 use association::Told;
 ghost use mathlib.Core.Path.{_≡_};
 ghost use Rattle.association.specs.Calls.{call, receiveRefusal, receiveOf};
-ghost use Rattle.association.specs.Steps.{quietOf};
+ghost use Rattle.receiving.specs.Steps.{quietOf};
 
 fn receive_refusal(a: Assoc, gather: &[u8], out: &[u8]) -> u8
     ensures { λ r. ⌜ r ≡ receiveRefusal a (now (gather .entry)) (now (out .entry)) ⌝ }
