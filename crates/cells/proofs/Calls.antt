@@ -19,8 +19,8 @@ use Rattle.cells.proofs.Moved.{local-fine}
 use Rattle.cells.proofs.Answered.{receive-refused, received, receive-fine, local-refused, local-done, takes-of}
 
 -- what a call leaves is not broken
-abbrev Sane : Call → Type 0
-Sane c = brokenOver (c .answer .assoc) (c .gather) ≡ false
+abbrev Unbroken : Call → Type 0
+Unbroken c = brokenOver (c .answer .assoc) (c .gather) ≡ false
 
 -- ---- receiving
 module _ (a : Assoc) (g p o : List ℕ) where
@@ -44,15 +44,15 @@ module _ (a : Assoc) (g p o : List ℕ) where
     pub receive-artim : receiveOf a g p o .answer .assoc .artim ≡ timed (receiveOf a g p o .answer .assoc .state)
     receive-artim = left-fine .sound .timed
 
-    pub receive-whole-record : brokenOver (receiveOf a g p o .answer .assoc) (receiveOf a g p o .gather) ≡ false
-    receive-whole-record = fine-over _ _ 16390 left-fine
+    pub receive-unbroken : brokenOver (receiveOf a g p o .answer .assoc) (receiveOf a g p o .gather) ≡ false
+    receive-unbroken = fine-over _ _ 16390 left-fine
 
-  pub receive-sane : brokenOver a g ≡ false → brokenOver (receiveOf a g p o .answer .assoc) (receiveOf a g p o .gather) ≡ false
+  pub receive-keeps-unbroken : brokenOver a g ≡ false → brokenOver (receiveOf a g p o .answer .assoc) (receiveOf a g p o .gather) ≡ false
   unfolding refusedWith
-  receive-sane s = by (eqb (receiveRefusal a g o) 0) refl
+  receive-keeps-unbroken s = by (eqb (receiveRefusal a g o) 0) refl
     where
-      by : (b : Bool) → eqb (receiveRefusal a g o) 0 ≡ b → Sane (receiveOf a g p o)
-      by true e = receive-whole-record (receive-refusal ∙ eqb-true _ _ e)
+      by : (b : Bool) → eqb (receiveRefusal a g o) 0 ≡ b → Unbroken (receiveOf a g p o)
+      by true e = receive-unbroken (receive-refusal ∙ eqb-true _ _ e)
       by false e = rw (receive-refused a g p o (eqb-false _ _ e)) s
 
 -- ---- a local event
@@ -87,13 +87,13 @@ module _ (a : Assoc) (g o : List ℕ) (e : Local) where
     pub local-artim : localOf a g o e .answer .assoc .artim ≡ timed (localOf a g o e .answer .assoc .state)
     local-artim = left-sound .sound .timed
 
-    pub local-whole-record : brokenOver (localOf a g o e .answer .assoc) (localOf a g o e .gather) ≡ false
-    local-whole-record = fine-over _ _ _ left-sound
+    pub local-unbroken : brokenOver (localOf a g o e .answer .assoc) (localOf a g o e .gather) ≡ false
+    local-unbroken = fine-over _ _ _ left-sound
 
-  pub local-sane : brokenOver a g ≡ false → brokenOver (localOf a g o e .answer .assoc) (localOf a g o e .gather) ≡ false
+  pub local-keeps-unbroken : brokenOver a g ≡ false → brokenOver (localOf a g o e .answer .assoc) (localOf a g o e .gather) ≡ false
   unfolding refusedWith
-  local-sane s = by (eqb (localRefusal a g o e) 0) refl
+  local-keeps-unbroken s = by (eqb (localRefusal a g o e) 0) refl
     where
-      by : (b : Bool) → eqb (localRefusal a g o e) 0 ≡ b → Sane (localOf a g o e)
-      by true q = local-whole-record (local-refusal ∙ eqb-true _ _ q)
+      by : (b : Bool) → eqb (localRefusal a g o e) 0 ≡ b → Unbroken (localOf a g o e)
+      by true q = local-unbroken (local-refusal ∙ eqb-true _ _ q)
       by false q = rw (local-refused a g o e (eqb-false _ _ q)) s
