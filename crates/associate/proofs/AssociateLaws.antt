@@ -1,28 +1,28 @@
 -- Laws of the two calls that write an A-ASSOCIATE-RQ and an A-ASSOCIATE-AC: their contents judged, and their forms as frames.
 -- Assumes nothing.
-use Prim.Native.Nat.{ℕ, _+_, _-_, _≤_, _<_}
+use Prim.Native.Nat.{ℕ}
 use native.Mathlib.Omega.{arith}
-use mathlib.Core.Bool.{Bool, true, false, not, _&&_, cond}
-use mathlib.Core.List.{List, [], _∷_, _++_, append-assoc}
+use mathlib.Core.Bool.{Bool, true, false, not, _&&_}
+use mathlib.Core.List.{List, _++_}
 use mathlib.Core.Path.{_≡_, refl, sym, ap, _∙_}
-use lib.ListN.{length, take, drop, replicate, length-append}
-use lib.Seq.{take-at, drop-at, drop-append-add}
+use lib.ListN.{length, drop, replicate, length-append}
+use lib.Seq.{take-at, drop-append-add}
 use lib.Dec.{eqb}
 use borrow.Author.Needs.{needs}
 use borrow.Author.Tests.{eqb-true, not-true, not-false}
 use Rattle.laws.proofs.Booleans.{left-of, right-of}
 use Rattle.laws.proofs.Tests.{deciding}
 use Rattle.octets.specs.Put.{put, Placed}
-use Rattle.octets.proofs.PutLaws.{put-out, put-length}
+use Rattle.octets.proofs.PutLaws.{put-out}
 use Rattle.names.specs.Name.{nameOk}
 use Rattle.names.specs.Title.{titleOk}
 use Rattle.names.proofs.NameLaws.{name-short}
 use Rattle.names.proofs.TitleLaws.{title-sixteen}
 use Rattle.sheets.specs.Sheet.{proposalOk, answersOk}
 use Rattle.sheets.proofs.Inverse.{proposal-whole, answers-whole}
-use Rattle.writing.specs.Fields.{RqFields, AcFields, rqOf, acOf, rqGood, acGood}
-use Rattle.writing.specs.Wire.{frameBytes, rqFrame, acFrame}
-use Rattle.writing.specs.Form.{Form, Wrote, rqForm, acForm}
+use Rattle.writing.specs.Fields.{rqOf, acOf, rqGood, acGood}
+use Rattle.writing.specs.Wire.{rqFrame, acFrame}
+use Rattle.writing.specs.Form.{Wrote, rqForm, acForm}
 use Rattle.associate.specs.Inner.{frameOf, frameForm, Fit}
 use Rattle.writing.specs.declared.Sent.{Sent}
 use Rattle.writing.proofs.FormLaws.{wrote-bad}

@@ -1,6 +1,6 @@
 -- Laws of a sheet's contexts, measured and written a record at a time.
 -- Assumes nothing.
-use Prim.Native.Nat.{ℕ, _+_, _-_, _/_, _%_, _≤_, _<_}
+use Prim.Native.Nat.{ℕ, _+_, _/_, _%_, _≤_, _<_}
 use native.Mathlib.Omega.{arith}
 use mathlib.Core.Bool.{Bool, true, false, cond}
 use mathlib.Core.List.{List, [], _∷_, _++_, map, append-assoc}
@@ -9,7 +9,6 @@ use lib.ListN.{length, drop, getD, length-append}
 use lib.Dec.{leb}
 use borrow.Author.Needs.{needs}
 use borrow.Author.Tests.{leb-true, leb-false, le-leb, lt-leb}
-use Rattle.octets.specs.Octets.{two}
 use Rattle.octets.specs.Put.{put}
 use Rattle.octets.proofs.PutLaws.{put-put, put-length, put-none}
 use Rattle.items.specs.Wire.{itemBytes, itemsBytes}
@@ -22,7 +21,7 @@ use Rattle.sheets.proofs.RunLaws.{contexts-here, contexts-none, answers-here, a
 use Rattle.writing.specs.Wire.{contextBody, answerBody}
 use Rattle.writing.specs.Inner.{Put}
 use Rattle.associate.specs.Inner.{runBytes, openBytes, contextBytes, proposalHead, answerHead, leadBytes, stepBytes, Ready, capped}
-use Rattle.writing.proofs.PutLaws.{put-nothing, kept, next-room, next-put}
+use Rattle.writing.proofs.PutLaws.{put-nothing, next-room, next-put}
 
 -- ---- one record in front of contexts
 

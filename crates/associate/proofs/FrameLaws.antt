@@ -1,37 +1,26 @@
 -- Laws of the frame of an A-ASSOCIATE-RQ and -AC: its parts, its length, and what the calls that write one answer.
 -- Assumes nothing.
-use Prim.Native.Nat.{ℕ, _+_, _-_, _/_, _%_, _≤_, _<_}
+use Prim.Native.Nat.{ℕ, _+_, _≤_, _<_}
 use native.Mathlib.Omega.{arith}
-use mathlib.Core.Bool.{Bool, true, false, not, _&&_, cond}
+use mathlib.Core.Bool.{Bool, true, false, cond}
 use mathlib.Core.List.{List, [], _∷_, _++_, map, append-assoc}
 use mathlib.Core.Path.{_≡_, refl, sym, ap, _∙_}
 use lib.ListN.{length, getD, length-append}
-use lib.Seq.{take-at, drop-at, drop-append-add}
-use lib.Dec.{leb, eqb}
+use lib.Dec.{leb}
 use borrow.Author.Needs.{needs}
-use borrow.Author.Tests.{le-leb, lt-leb, eq-eqb, leb-true, leb-false, eqb-true, not-true, not-false}
-use Rattle.laws.proofs.Booleans.{left-of, right-of}
-use Rattle.laws.proofs.Tests.{deciding}
+use borrow.Author.Tests.{leb-false}
 use Rattle.octets.specs.Octets.{four}
-use Rattle.octets.specs.Put.{put, Placed}
-use Rattle.octets.proofs.PutLaws.{put-out, put-length}
-use Rattle.names.specs.Name.{nameOk}
-use Rattle.names.specs.Title.{titleOk}
 use Rattle.names.proofs.NameLaws.{name-short}
-use Rattle.names.proofs.TitleLaws.{title-sixteen}
 use Rattle.items.specs.Wire.{itemBytes, itemsBytes}
 use Rattle.items.proofs.WireLaws.{item-length}
 use Rattle.sheets.specs.Contexts.{Context}
-use Rattle.sheets.specs.Sheet.{contextsIn, answersIn, proposalOk, answersOk}
-use Rattle.sheets.proofs.Inverse.{proposal-whole, answers-whole}
-use Rattle.writing.specs.Fields.{RqFields, AcFields, rqOf, acOf, rqGood, acGood}
-use Rattle.writing.specs.Wire.{pduBytes, Frame, joined, frameItems, frameBytes, ourUser, contextBody, answerBody, rqFrame, acFrame}
-use Rattle.writing.specs.Form.{Form, Wrote, rqForm, acForm}
+use Rattle.sheets.specs.Sheet.{contextsIn}
+use Rattle.writing.specs.Wire.{pduBytes, joined, frameItems, frameBytes, ourUser, contextBody}
+use Rattle.writing.specs.Form.{Wrote}
 use Rattle.writing.specs.Inner.{Put}
 use Rattle.associate.specs.Inner.{openBytes, contextBytes, capped, base, frameOf, frameForm, itemPart, fixedPart, Fit, Measured}
-use Rattle.writing.specs.declared.Sent.{Sent}
-use Rattle.writing.proofs.PutLaws.{kept, next-room, next-put}
-use Rattle.writing.proofs.FormLaws.{wrote-bad, wrote-long, wrote-short, wrote-fine}
+use Rattle.writing.proofs.PutLaws.{next-room, next-put}
+use Rattle.writing.proofs.FormLaws.{wrote-long, wrote-short, wrote-fine}
 
 -- ---- `user`, `base`
 pub user-is : 0x51 ∷ 0 ∷ 0 ∷ 4 ∷ 0 ∷ 0 ∷ 0x40 ∷ 0 ∷ [] ≡ joined ourUser

@@ -1,5 +1,4 @@
 // Bytes and items put where they have room.
-ghost use mathlib.Core.Path.{_≡_};
 ghost use Prim.Native.Nat.{_+_, _≤_, _<_};
 ghost use lib.ListN.{length};
 ghost use Rattle.items.specs.Wire.{itemBytes};

@@ -1,10 +1,10 @@
 -- An A-ASSOCIATE-AC of good contents whose PDU-length is at most 16,384 is a whole valid AC, and reads back as those contents.
 -- Assumes nothing.
-use Prim.Native.Nat.{ℕ, _+_, _-_, _/_, _≤_, _<_}
+use Prim.Native.Nat.{ℕ, _+_, _-_, _/_, _≤_}
 use native.Mathlib.Omega.{arith}
-use mathlib.Core.Bool.{Bool, true, false, _&&_, cond}
-use mathlib.Core.List.{List, [], _∷_, _++_, map}
-use mathlib.Core.Path.{_≡_, refl, sym, ap, _∙_}
+use mathlib.Core.Bool.{true, _&&_}
+use mathlib.Core.List.{List, map}
+use mathlib.Core.Path.{_≡_, refl, ap, _∙_}
 use lib.ListN.{length, take, drop, length-map}
 use lib.Dec.{leb, eqb}
 use borrow.Author.Tests.{eqb-true}
@@ -17,7 +17,7 @@ use Rattle.judging.proofs.KindLaws.{kind-of-valid}
 use Rattle.sheets.specs.Contexts.{answeredId, answeredOk, allAnsweredOk}
 use Rattle.sheets.specs.Sheet.{answersIn, answerSheetOf, answersOk}
 use Rattle.sheets.proofs.Inverse.{answers-answered, answer-sheet-back}
-use Rattle.reading.specs.Associate.{answerOf, answered, applicationOf, applicationAt, sheetIn, fieldsOf, associateOf, filling}
+use Rattle.reading.specs.Associate.{answerOf, answered, applicationOf, applicationAt, sheetIn, fieldsOf}
 use Rattle.writing.specs.Fields.{AcFields, acGood}
 use Rattle.writing.specs.Wire.{frameBytes, answerBody, acFrame}
 use Rattle.writing.specs.Form.{acForm}

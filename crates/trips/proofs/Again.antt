@@ -1,10 +1,10 @@
 -- What is read from any valid RQ or AC may be written again: its fields are good contents, and the PDU of them is no longer than the one that was read, since only what is skipped goes.
 -- Assumes nothing.
-use Prim.Native.Nat.{ℕ, _+_, _-_, _≤_, _<_}
+use Prim.Native.Nat.{ℕ, _+_, _-_, _≤_}
 use native.Mathlib.Omega.{arith}
-use mathlib.Core.Bool.{Bool, true, false, _&&_, cond}
+use mathlib.Core.Bool.{true, false, _&&_}
 use mathlib.Core.List.{List, [], _∷_, _++_, map}
-use mathlib.Core.Path.{_≡_, refl, sym, ap, _∙_}
+use mathlib.Core.Path.{_≡_, refl, ap, _∙_}
 use lib.ListN.{length, take, drop, getD, replicate, length-append, length-drop, length-map}
 use lib.Seq.{length-take-le}
 use lib.Dec.{leb, eqb}
@@ -13,16 +13,16 @@ use Rattle.laws.specs.Lists.{all, distinct}
 use Rattle.laws.proofs.Booleans.{left-of, right-of, both-of}
 use Rattle.names.specs.Name.{nameOk}
 use Rattle.names.specs.Title.{titleOk}
-use Rattle.items.specs.Items.{walk, filled, bodies, first, keeps}
+use Rattle.items.specs.Items.{walk, filled, bodies, first}
 use Rattle.items.specs.Wire.{itemBytes, itemsBytes}
 use Rattle.items.proofs.RuleLaws.{keeps-filled, keeps-good}
 use Rattle.items.proofs.WireLaws.{item-length, items-cons}
 use Rattle.contents.specs.Contents.{odd, subRule, good20H, one, transferOk as walkedOk, good21H, good50H, topGood, topRule, bodyId, ids, itemsOk}
 use Rattle.contents.proofs.GoodLaws.{kept-20, odd-20, abstract-names, transfer-names, odd-21, result-21, transfer-name, items-kept, items-distinct, items-20, items-21}
-use Rattle.judging.specs.Pdu.{pduLength, calledOf, callingOf, topItems, whole, requestOk, acceptOk, kindOf}
+use Rattle.judging.specs.Pdu.{pduLength, calledOf, callingOf, topItems, requestOk, kindOf}
 use Rattle.judging.proofs.KindLaws.{kind-whole, kind-request, request-long, accept-long, request-items, accept-items, whole-length, whole-limit}
 use Rattle.sheets.specs.Contexts.{Context, Answered, contextId, answeredId, contextOk, transferOk, answeredOk, contextsOk, allAnsweredOk}
-use Rattle.sheets.specs.Sheet.{sheetOf, answerSheetOf, contextsIn, answersIn, proposalOk, answersOk}
+use Rattle.sheets.specs.Sheet.{contextsIn, answersIn}
 use Rattle.sheets.proofs.Inverse.{contexts-back, contexts-proposal, answered-back, answered-answers}
 use Rattle.reading.specs.Associate.{contextOf, answerOf, proposed, answered, applicationOf, sheetIn}
 use Rattle.writing.specs.Fields.{rqGood, acGood}

@@ -1,15 +1,15 @@
 -- A context's and an answer's item body: what is written is good and reads back.
 -- Assumes nothing.
-use Prim.Native.Nat.{ℕ, _+_, _%_, _≤_, _<_}
+use Prim.Native.Nat.{ℕ, _<_}
 use native.Mathlib.Omega.{arith}
-use mathlib.Core.Bool.{Bool, true, false, _&&_, cond}
-use mathlib.Core.List.{List, [], _∷_, _++_, map, append-nil}
+use mathlib.Core.Bool.{true, _&&_}
+use mathlib.Core.List.{List, [], _∷_, map, append-nil}
 use mathlib.Core.Path.{_≡_, refl, sym, ap, _∙_}
-use lib.ListN.{length, drop, getD, length-append}
-use lib.Dec.{leb, eqb}
+use lib.ListN.{length, drop, length-append}
+use lib.Dec.{leb}
 use borrow.Author.Tests.{le-leb}
 use Rattle.laws.specs.Lists.{all}
-use Rattle.laws.proofs.Booleans.{left-of, right-of, both-of, held}
+use Rattle.laws.proofs.Booleans.{left-of, right-of, both-of}
 use Rattle.names.specs.Name.{nameOk}
 use Rattle.items.specs.Items.{Walk, done, item, walk, filled, bodies, first, keeps}
 use Rattle.items.specs.Wire.{itemBytes, itemsBytes}

@@ -1,19 +1,19 @@
 -- The frame of an RQ and an AC, walked over: its parts stand where reading looks for them, and its items are good.
 -- Assumes nothing.
-use Prim.Native.Nat.{ℕ, _+_, _-_, _*_, _/_, _%_, _≤_, _<_}
+use Prim.Native.Nat.{ℕ, _+_, _≤_, _<_}
 use native.Mathlib.Omega.{arith}
-use mathlib.Core.Bool.{Bool, true, false, _&&_, cond}
+use mathlib.Core.Bool.{true, false}
 use mathlib.Core.List.{List, [], _∷_, _++_, map, append-nil}
-use mathlib.Core.Path.{_≡_, refl, sym, ap, _∙_}
-use lib.ListN.{length, take, drop, getD, length-append}
+use mathlib.Core.Path.{_≡_, refl, ap, _∙_}
+use lib.ListN.{length, take, drop, length-append}
 use lib.Seq.{take-at, drop-at}
 use lib.Dec.{leb, eqb}
 use borrow.Author.Tests.{le-leb, eq-eqb}
 use Rattle.laws.specs.Lists.{all, distinct}
 use Rattle.laws.proofs.Booleans.{left-of, right-of, both-of, held}
-use Rattle.octets.specs.Octets.{be16, be32, four}
+use Rattle.octets.specs.Octets.{be16, be32}
 use Rattle.names.specs.Name.{nameOk}
-use Rattle.items.specs.Items.{Walk, done, broken, item, step, walkIn, walk, filled, bodies, first, place, Rule, keeps}
+use Rattle.items.specs.Items.{Walk, done, item, step, walkIn, walk, filled, bodies, first, place, keeps}
 use Rattle.items.specs.Wire.{itemBytes, itemsBytes}
 use Rattle.items.proofs.WireLaws.{item-length, walk-item, walk-last, run, walk-items, bodies-run, bodies-past, keeps-run}
 use Rattle.contents.specs.Contents.{one, good50H, contextGood, topGood, topNext, topRule, bodyId, ids, itemsOk, maximumIn}

@@ -1,16 +1,15 @@
 -- What the reading calls answer where the kind of a PDU is known.
 -- Assumes nothing.
-use Prim.Native.Nat.{ℕ, _+_, _≤_}
-use mathlib.Core.Bool.{Bool, true, false, _&&_, _||_, cond}
-use mathlib.Core.List.{List, []}
-use mathlib.Core.Path.{_≡_, refl, sym, ap, _∙_}
+use Prim.Native.Nat.{ℕ, _≤_}
+use mathlib.Core.Bool.{true}
+use mathlib.Core.List.{List}
+use mathlib.Core.Path.{_≡_}
 use lib.ListN.{length}
-use lib.Dec.{leb, eqb}
+use lib.Dec.{eqb}
 use borrow.Author.Tests.{le-leb}
 use Rattle.contents.specs.Contents.{maximumIn}
 use Rattle.judging.specs.Pdu.{topItems, kindOf, maximumOf}
-use Rattle.reading.specs.Associate.{sheetIn, refused, fieldsOf, associateOf, filling}
-use Rattle.reading.specs.declared.associate.Associate.{Associate}
+use Rattle.reading.specs.Associate.{sheetIn, fieldsOf, associateOf, filling}
 
 pub maximum-1 : (pdu : List ℕ) → kindOf pdu ≡ 1 → maximumOf pdu ≡ maximumIn (topItems pdu)
 unfolding maximumOf

@@ -1,16 +1,15 @@
 -- A holder that keeps its rule has met the items that the rule asks for: the one 10H and a context at the top, the 30H and a 40H in a 20H.
 -- Assumes nothing.
-use Prim.Native.Nat.{ℕ, _+_, _≤_}
+use Prim.Native.Nat.{ℕ}
 use native.Mathlib.Omega.{arith}
-use mathlib.Core.Bool.{Bool, true, false, _&&_, _||_, cond}
+use mathlib.Core.Bool.{Bool, true, false, _||_, cond}
 use mathlib.Core.List.{List, [], _∷_}
 use mathlib.Core.Path.{_≡_, refl, sym, ap, _∙_}
 use lib.ListN.{length}
 use lib.Dec.{leb, eqb}
-use borrow.Author.Tests.{le-leb, eqb-true, eq-eqb}
+use borrow.Author.Tests.{le-leb, eqb-true}
 use Rattle.laws.specs.Lists.{all, among}
 use Rattle.laws.proofs.Booleans.{left-of, right-of, held}
-use Rattle.names.specs.Name.{nameOk}
 use Rattle.items.specs.Items.{Walk, done, broken, item, bodies, first, Rule, keeps}
 use Rattle.contents.specs.Contents.{subNext, subRule, topNext, topRule}
 

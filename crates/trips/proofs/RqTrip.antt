@@ -1,28 +1,27 @@
 -- An A-ASSOCIATE-RQ of good contents whose PDU-length is at most 16,384 is a whole valid RQ, and reads back as those contents.
 -- Assumes nothing.
-use Prim.Native.Nat.{ℕ, _+_, _-_, _/_, _≤_, _<_}
+use Prim.Native.Nat.{ℕ, _+_, _-_, _/_, _≤_}
 use native.Mathlib.Omega.{arith}
-use mathlib.Core.Bool.{Bool, true, false, _&&_, cond}
-use mathlib.Core.List.{List, [], _∷_, _++_, map, append-assoc}
-use mathlib.Core.Path.{_≡_, refl, sym, ap, _∙_}
+use mathlib.Core.Bool.{true, _&&_}
+use mathlib.Core.List.{List, _++_, map, append-assoc}
+use mathlib.Core.Path.{_≡_, refl, ap, _∙_}
 use lib.ListN.{length, take, drop, replicate, length-append, length-map}
-use lib.Seq.{take-at, drop-at, drop-drop}
+use lib.Seq.{take-at, drop-at}
 use lib.Dec.{leb, eqb}
 use Rattle.laws.specs.Lists.{all, distinct}
 use Rattle.laws.proofs.Booleans.{left-of, right-of, both-of}
 use Rattle.names.specs.Name.{nameOk}
 use Rattle.names.specs.Title.{titleOk}
 use Rattle.names.proofs.TitleLaws.{title-sixteen}
-use Rattle.items.specs.Items.{walk, bodies, first}
-use Rattle.contents.specs.Contents.{odd, good20H, contextGood, bodyId, itemsOk}
-use Rattle.judging.specs.Pdu.{typeOf, pduLength, versionOf, calledOf, callingOf, topItems, whole, requestOk, validAs, kindOf, acceptable, maximumOf}
+use Rattle.contents.specs.Contents.{odd, good20H, contextGood, itemsOk}
+use Rattle.judging.specs.Pdu.{versionOf, calledOf, callingOf, topItems, requestOk, validAs, kindOf, acceptable, maximumOf}
 use Rattle.judging.proofs.KindLaws.{kind-of-valid}
-use Rattle.sheets.specs.Contexts.{Context, contextId, contextOk, contextsOk}
+use Rattle.sheets.specs.Contexts.{contextId, contextOk, contextsOk}
 use Rattle.sheets.specs.Sheet.{contextsIn, sheetOf, proposalOk}
 use Rattle.sheets.proofs.Inverse.{proposal-contexts, proposal-back}
-use Rattle.reading.specs.Associate.{contextOf, proposed, applicationOf, applicationAt, sheetIn, fieldsOf, associateOf, filling}
+use Rattle.reading.specs.Associate.{contextOf, proposed, applicationOf, applicationAt, sheetIn, fieldsOf}
 use Rattle.writing.specs.Fields.{RqFields, rqGood}
-use Rattle.writing.specs.Wire.{frameItems, frameBytes, pduBytes, ourUser, contextBody, rqFrame}
+use Rattle.writing.specs.Wire.{frameItems, frameBytes, pduBytes, contextBody, rqFrame}
 use Rattle.writing.specs.Form.{rqForm}
 use Rattle.trips.specs.Trips.{RqTrip, readOf}
 use Rattle.trips.proofs.ContextTrip.{Contexts, contexts-trip}

@@ -1,12 +1,11 @@
 -- The round trip for what the writing calls send: wherever a call does not refuse, the bytes that it sends make the trip.
 -- Assumes nothing.
 use Prim.Native.Nat.{ℕ}
-use mathlib.Core.List.{List}
-use mathlib.Core.Path.{_≡_, sym, ap, _∙_, subst}
+use mathlib.Core.Path.{_≡_, ap, _∙_}
 use Rattle.judging.specs.Pdu.{kindOf}
 use Rattle.writing.specs.Fields.{RqFields, AcFields, Reject, Items, Abort}
-use Rattle.writing.specs.Form.{refusalOf, sentBytes, rqForm, acForm, rejectForm, mostOf, dataForm, releaseRqForm, releaseRpForm, abortForm}
-use Rattle.writing.proofs.FormLaws.{Answered, answered}
+use Rattle.writing.specs.Form.{refusalOf, sentBytes, rqForm, acForm, rejectForm, dataForm, releaseRqForm, releaseRpForm, abortForm}
+use Rattle.writing.proofs.FormLaws.{answered}
 use Rattle.trips.specs.Trips.{RqTrip, AcTrip, RejectTrip, DataTrip, AbortTrip}
 use Rattle.trips.proofs.RqTrip.{rq-trip}
 use Rattle.trips.proofs.AcTrip.{ac-trip}

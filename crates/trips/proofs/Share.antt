@@ -1,20 +1,19 @@
 -- The bytes that items of one type take in a holder: those of different types together are at most the holder's.
 -- Assumes nothing.
-use Prim.Native.Nat.{ℕ, zero, suc, _+_, _-_, _≤_, _<_}
+use Prim.Native.Nat.{ℕ, zero, suc, _+_, _≤_}
 use native.Mathlib.Omega.{arith}
 use native.Mathlib.Nat.{zero-add}
 use mathlib.Core.Bool.{Bool, true, false, cond}
-use mathlib.Core.List.{List, [], _∷_, _++_}
-use mathlib.Core.Path.{_≡_, refl, sym, ap, _∙_}
-use lib.ListN.{length, take, drop, getD, length-drop}
+use mathlib.Core.List.{List, [], _∷_}
+use mathlib.Core.Path.{_≡_, refl, sym, _∙_}
+use lib.ListN.{length, take, drop, length-drop}
 use lib.Seq.{length-take-le}
 use lib.Dec.{leb, eqb}
 use borrow.Author.Tests.{leb-true, eqb-true, eq-eqb}
-use Rattle.laws.specs.Lists.{empty}
 use Rattle.laws.proofs.Booleans.{held}
 use Rattle.octets.specs.Octets.{be16}
 use Rattle.items.specs.Items.{Walk, done, broken, item, step, walkIn, walk, filled, bodies, first}
-use Rattle.items.specs.Wire.{itemBytes, itemsBytes}
+use Rattle.items.specs.Wire.{itemsBytes}
 use Rattle.items.proofs.WireLaws.{items-cons}
 
 -- the bytes of all items

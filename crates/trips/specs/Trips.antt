@@ -1,19 +1,17 @@
 -- The round trip of each PDU: what is written is a whole valid PDU of its kind, and reading it gives the same fields, a sheet byte for byte. And what may be read may be written again.
-use Prim.Native.Nat.{ℕ, _+_, _/_, _≤_}
+use Prim.Native.Nat.{ℕ, _/_, _≤_}
 use mathlib.Core.Path.{_≡_}
 use mathlib.Core.Bool.{true}
 use mathlib.Core.List.{List}
 use lib.ListN.{length, take, drop}
 use Rattle.judging.specs.Data.{pdvs}
-use Rattle.judging.specs.Pdu.{calledOf, callingOf, kindOf, acceptable as acceptableOf, versionOf, maximumOf}
+use Rattle.judging.specs.Pdu.{calledOf, callingOf, kindOf, acceptable as acceptableOf}
 use Rattle.sheets.specs.Sheet.{contextsIn, answersIn}
-use Rattle.reading.specs.Associate.{proposed, answered, applicationOf, applicationAt, sheetIn, fieldsOf, associateOf, filling}
+use Rattle.reading.specs.Associate.{proposed, answered, applicationOf, sheetIn, associateOf, filling}
 use Rattle.reading.specs.Values as values
 use Rattle.reading.specs.Data.{pdvsOf}
 use Rattle.reading.specs.declared.associate.Associate.{Associate}
-use Rattle.reading.specs.declared.values.RejectRead.{RejectRead}
-use Rattle.reading.specs.declared.values.AbortRead.{AbortRead}
-use Rattle.writing.specs.Fields.{RqFields, AcFields, Reject, Items, Abort, rqGood, acGood}
+use Rattle.writing.specs.Fields.{RqFields, AcFields, Reject, Items, Abort}
 
 -- what reading an RQ or AC of ours answers: the application name stands behind the first item's head, the sheet has as many records as the one that was given
 abbrev pub readOf : List ℕ → List ℕ → Associate

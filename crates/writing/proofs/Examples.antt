@@ -1,7 +1,7 @@
 -- Case 3 and further examples: antt computes both sides.
 -- Assumes nothing.
 use Prim.Native.Nat.{ℕ}
-use mathlib.Core.Bool.{true, false}
+use mathlib.Core.Bool.{false}
 use mathlib.Core.List.{List, [], _∷_}
 use mathlib.Core.Path.{_≡_, refl}
 use Rattle.laws.specs.Lists.{among, distinct}
@@ -10,11 +10,11 @@ use Rattle.names.specs.Name.{nameOk}
 use Rattle.names.specs.Title.{titleOk}
 use Rattle.items.specs.Wire.{itemBytes}
 use Rattle.judging.specs.Data.{pdvStep, pdvsIn, pdvs, pdvOk, pdvsOk}
-use Rattle.judging.specs.Values.{rejectReasons, rejectOk, abortOk}
+use Rattle.judging.specs.Values.{abortOk}
 use Rattle.sheets.specs.Contexts.{contextOk, transferOk, answeredOk, contextsOk, allAnsweredOk}
 use Rattle.sheets.specs.Sheet.{recordBytes, recordsOf, cap, abstractOf, transferOf, goesOn, start, runs, contextsIn, answeredOf, answersIn, fieldOk, fieldsOk, proposes, answers, proposalOk, answersOk}
-use Rattle.writing.specs.Fields.{rejectOf, itemsOf, abortOf, rqGood, acGood, rejectGood, itemsGood, abortGood}
-use Rattle.writing.specs.Ten.{tens, tenOf, rejectBytes, abortBytes}
+use Rattle.writing.specs.Fields.{rejectOf, itemsOf, abortOf, rqGood, acGood, itemsGood, abortGood}
+use Rattle.writing.specs.Ten.{tens, tenOf, rejectBytes}
 use Rattle.writing.specs.Wire.{pduBytes, frameItems, frameBytes, ourUser, contextBody, answerBody, rqFrame, acFrame}
 use Rattle.writing.specs.Form.{refusalOf, sentBytes, rqForm, acForm, rejectForm, mostOf, dataForm, abortForm}
 use Rattle.writing.specs.Cases.{asking, accepting, Case3}

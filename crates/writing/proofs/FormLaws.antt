@@ -1,18 +1,17 @@
 -- Laws of a written form: each refusal and the answer, as the writing calls come to them, and what they mean for every form: a refused call leaves the output as it was, an
 -- answered one changes no byte beyond those sent, and any two permitted answers agree.
 -- Assumes nothing.
-use Prim.Native.Nat.{ℕ, _+_, _-_, _≤_, _<_}
+use Prim.Native.Nat.{ℕ, _-_, _≤_, _<_}
 use native.Mathlib.Omega.{arith}
 use mathlib.Core.Bool.{Bool, true, false, cond}
-use mathlib.Core.List.{List, [], _∷_, _++_}
+use mathlib.Core.List.{List, []}
 use mathlib.Core.Path.{_≡_, refl, sym, ap, _∙_}
 use lib.ListN.{length, take, drop}
 use lib.Seq.{take-at, drop-at}
 use lib.Dec.{leb, eqb}
-use borrow.Author.Tests.{le-leb, lt-leb, eq-eqb, ne-eqb, leb-true, eqb-true}
+use borrow.Author.Tests.{le-leb, lt-leb, ne-eqb, leb-true}
 use Rattle.laws.proofs.Agree.{agree}
-use Rattle.laws.proofs.Booleans.{held}
-use Rattle.octets.specs.Put.{put, front}
+use Rattle.octets.specs.Put.{front}
 use Rattle.octets.proofs.PutLaws.{put-front}
 use Rattle.writing.specs.Form.{Form, refusalOf, sentBytes, sentOf, Wrote}
 use Rattle.writing.specs.Inner.{Put}

@@ -4,3 +4,4 @@ pub mod TenLaws
 pub mod DataLaws
 pub mod Agree
 pub mod Examples
+pub mod Many

@@ -6,7 +6,7 @@ use mathlib.Core.List.{List, [], _++_}
 use mathlib.Core.Path.{_≡_, sym, ap, _∙_}
 use lib.ListN.{length, length-append}
 use borrow.Author.Needs.{needs}
-use Rattle.octets.specs.Put.{put, Placed}
+use Rattle.octets.specs.Put.{Placed}
 use Rattle.octets.proofs.PutLaws.{put-out, put-behind, put-put, put-length, put-none}
 use Rattle.writing.specs.Inner.{Put}
 

@@ -1,15 +1,15 @@
 -- Laws of the ten-byte PDUs.
 -- Assumes nothing.
-use Prim.Native.Nat.{ℕ, zero, suc, _+_, _-_, _≤_, _<_}
+use Prim.Native.Nat.{ℕ, zero, suc, _≤_, _<_}
 use native.Mathlib.Omega.{arith}
-use mathlib.Core.Bool.{Bool, true, false, not, _&&_, cond}
-use mathlib.Core.List.{List, [], _∷_, _++_}
+use mathlib.Core.Bool.{Bool, true, false, not}
+use mathlib.Core.List.{List, [], _∷_}
 use mathlib.Core.Path.{_≡_, refl, sym, ap, _∙_}
-use lib.ListN.{length, set, getD, List·getD-eq-default}
+use lib.ListN.{length, set, List·getD-eq-default}
 use lib.Dec.{leb, eqb}
 use borrow.Author.Needs.{needs}
-use borrow.Author.Tests.{le-leb, lt-leb, eq-eqb, ne-eqb, leb-true, leb-false, not-true, not-false}
-use Rattle.octets.specs.Put.{put, placed, placeBehind, Placed}
+use borrow.Author.Tests.{eq-eqb, ne-eqb, leb-true, leb-false, not-true, not-false}
+use Rattle.octets.specs.Put.{Placed}
 use Rattle.octets.proofs.PutLaws.{put-none, placed-fits, behind-fits}
 use Rattle.judging.specs.Values.{rejectOk, abortOk}
 use Rattle.writing.specs.Fields.{rejectOf, abortOf, rejectGood, abortGood}

@@ -1,8 +1,7 @@
 -- Document 01, case 3: "RQ with application name 1.2.840.10008.3.1.1.1, ID 1, abstract 1.2.840.10008.1.1, transfer 1.2.840.10008.1.2: PDU-length 155, 161 bytes. Its
 -- accepting AC: 134 and 140."
-use Prim.Native.Nat.{ℕ, _-_}
 use mathlib.Core.Path.{_≡_}
-use mathlib.Core.List.{List, [], _++_}
+use mathlib.Core.List.{[], _++_}
 use lib.ListN.{length, replicate}
 use Rattle.laws.specs.Text.{bytes}
 use Rattle.octets.specs.Octets.{be32}

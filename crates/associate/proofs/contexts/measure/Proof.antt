@@ -1,4 +1,4 @@
--- `measure` meets its contract.
+-- `measure` meets its contract. n counts the base and what the records before `at` add.
 -- Assumes nothing.
 use Prim.Native.Nat.{_+_, _-_, _%_, _≤_}
 use mathlib.Core.Bool.{false}

@@ -1,4 +1,4 @@
--- `put_contexts` meets its contract.
+-- `put_contexts` meets its contract. What the records before `at` add stands in the output; the rest goes behind it.
 -- Assumes nothing.
 use Prim.Native.Nat.{_-_}
 use lib.ListN.{length}

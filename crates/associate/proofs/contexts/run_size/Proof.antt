@@ -1,4 +1,4 @@
--- `run_size` meets its contract.
+-- `run_size` meets its contract. n counts the 40H items of the run up to the record at `at`.
 -- Assumes nothing.
 use Prim.Native.Nat.{_+_, _-_, _≤_}
 use mathlib.Core.Path.{_≡_}
