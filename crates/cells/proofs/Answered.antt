@@ -19,7 +19,7 @@ use Rattle.association.specs.Events.{Local}
 use Rattle.association.specs.Machine.{upper, requestRefusal, onLocal}
 use Rattle.association.specs.Calls.{Call, call, withCount, lentOf, heard, receiveRefusal, receiveOf, localRefusal, localOf}
 use Rattle.cells.proofs.Kept.{upper-laws}
-use Rattle.association.proofs.Sound.{Fine}
+use Rattle.cells.proofs.Unbroken.{Fine}
 use Rattle.cells.proofs.Ready.{receives-of, ready-of, fine-lent}
 
 -- ---- receiving

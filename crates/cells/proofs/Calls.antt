@@ -13,7 +13,7 @@ use Rattle.association.specs.Record.{timed, brokenOver}
 use Rattle.association.specs.Refusals.{refusedWith}
 use Rattle.association.specs.Events.{Local}
 use Rattle.association.specs.Calls.{Call, call, heard, receiveRefusal, receiveOf, localRefusal, localOf}
-use Rattle.association.proofs.Sound.{Fine, fine}
+use Rattle.cells.proofs.Unbroken.{Fine, fine}
 use Rattle.cells.proofs.Ready.{fine-over}
 use Rattle.cells.proofs.Moved.{local-fine}
 use Rattle.cells.proofs.Answered.{receive-refused, received, receive-fine, local-refused, local-done, takes-of}

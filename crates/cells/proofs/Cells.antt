@@ -31,7 +31,7 @@ use Rattle.association.specs.Calls.{call, withCount, lentOf, heard, receiveRefu
 use Rattle.cells.specs.Cells.{calls, bytesOf, eventBy, pduBy, eventIn, pduIn, Did, Demand2}
 use Rattle.cells.specs.Cells as cells
 use Rattle.cells.proofs.Moves.{Received, received-by}
-use Rattle.association.proofs.Sound.{Sound}
+use Rattle.cells.proofs.Unbroken.{Sound}
 use Rattle.cells.proofs.Sound.{keeps, entering-state, never}
 use Rattle.cells.proofs.Given.{cell-own, next-is}
 use Rattle.cells.proofs.Ready.{Receives, receives-of, drops-same}

@@ -16,7 +16,7 @@ use Rattle.association.specs.Events.{Local, Sends, plainSends, numberOf, sendsO
 use Rattle.association.specs.Events.{Local.plain, Local.confirm, Local.accept, Local.reject, Local.send, Sends.own, Sends.bad, Sends.given}
 use Rattle.association.specs.Deeds.{brings, after}
 use Rattle.association.specs.Machine.{localCell, localAction, inputOf, formOf, requestRefusal, doing, onLocal}
-use Rattle.association.proofs.Sound.{Sound}
+use Rattle.cells.proofs.Unbroken.{Sound}
 use Rattle.cells.proofs.Sound.{keeps, sound-keeps}
 
 -- ---- the cell

@@ -1,3 +1,4 @@
+pub mod Unbroken
 pub mod Moves
 pub mod Sound
 pub mod Given

@@ -15,7 +15,7 @@ use Rattle.association.specs.Events.{Local, numberOf}
 use Rattle.association.specs.Deeds.{after, entering, requestorAfter}
 use Rattle.association.specs.Machine.{onLocal, requestRefusal}
 use Rattle.association.specs.Calls.{withCount}
-use Rattle.association.proofs.Sound.{Sound, Fine}
+use Rattle.cells.proofs.Unbroken.{Sound, Fine}
 use Rattle.association.proofs.RefusalLaws.{few-gathered}
 use Rattle.cells.proofs.Sound.{keeps, none-gathered}
 use Rattle.cells.proofs.Given.{next-at, sound-local}

@@ -18,7 +18,7 @@ use Rattle.association.specs.Record.{dropping, brokenOver}
 use Rattle.association.specs.Refusals.{recordRefusal}
 use Rattle.association.specs.Machine.{upper}
 use Rattle.association.specs.Calls.{withCount, lentOf, receiveRefusal}
-use Rattle.association.proofs.Sound.{Sound, Fine, fine, not-broken, not-refused, quiet-of, good-length}
+use Rattle.cells.proofs.Unbroken.{Sound, Fine, fine, not-broken, not-refused, quiet-of, good-length}
 use Rattle.cells.proofs.Kept.{upper-laws}
 
 pub drops-same : (a : Assoc) (n : ℕ) → dropping (withCount a n) ≡ dropping a

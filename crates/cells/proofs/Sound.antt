@@ -17,7 +17,7 @@ use Rattle.association.specs.Events.{eventOf, eventOfKind, invalid}
 use Rattle.association.specs.Deeds.{after, entering, requestorAfter}
 use Rattle.association.specs.Deeds.{Input.whole, Input.long}
 use Rattle.association.specs.Machine.{doing, onEvent}
-use Rattle.association.proofs.Sound.{Sound}
+use Rattle.cells.proofs.Unbroken.{Sound}
 use Rattle.cells.proofs.Moves.{received-by, timer-runs, not-4, from-13, to-13}
 
 pub never : {A : Type 0} (b : Bool) → b ≡ false → b ≡ true → A

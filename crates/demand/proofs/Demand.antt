@@ -19,7 +19,7 @@ use Rattle.association.specs.Events.{Local}
 use Rattle.association.specs.Machine.{Seen, upper}
 use Rattle.association.specs.Calls.{withCount}
 use Rattle.cells.proofs.Kept.{rests-idle, upper-laws}
-use Rattle.association.proofs.Sound.{Fine}
+use Rattle.cells.proofs.Unbroken.{Fine}
 use Rattle.cells.proofs.Ready.{ready-of, fine-ready, fine-over}
 use Rattle.demand.specs.Calls.{Lent, fresh, machine, boxOf, boxed, wanted}
 use Rattle.demand.proofs.Same.{engine, At, same-calls}

@@ -29,7 +29,7 @@ use Rattle.association.specs.Events.{Local.plain, Local.confirm, Local.accept, 
 use Rattle.association.specs.Deeds.{Input}
 use Rattle.association.specs.Machine.{Seen, upper, localAction, inputOf, doing, onEvent, onLocal, requestRefusal}
 use Rattle.association.specs.Calls.{Call, call, withCount, lentOf, heard, localRefusal, localOf}
-use Rattle.association.proofs.Sound.{Sound, Fine, not-refused}
+use Rattle.cells.proofs.Unbroken.{Sound, Fine, not-refused}
 use Rattle.cells.proofs.Sound.{brought-filled, long-filled}
 use Rattle.cells.proofs.Given.{OwnCell, acts, cell-own, next-is, request-roomy}
 use Rattle.cells.proofs.Kept.{upper-laws}
