@@ -66,7 +66,7 @@ module _ (b : List ℕ) (g : good20H b ≡ true) where
 
 -- ---- an answer
 module _ (b : List ℕ) (g : good21H b ≡ true) where
-  answer-parts : (leb 4 (length b) && (odd (getD b 0 0) && (leb (getD b 2 0) 4 && walkedOk (walk (drop 4 b))))) ≡ true
+  answer-parts : (leb 4 (length b) && (odd (getD b 0 0) && (leb (getD b 2 0) 4 && walkedOk (getD b 2 0) (walk (drop 4 b))))) ≡ true
   unfolding good21H
   answer-parts = g
 

@@ -66,7 +66,7 @@ answer-good : (c : Answered) → answeredOk c ≡ true → length (answerBody c)
 unfolding good21H answeredOk transferOk answerBody walkedOk one filled bodies
 answer-good c k h =
     let k₂ : (leb (c .result) 4 && transferOk (c .result) (c .transfer)) ≡ true = right-of (odd (c .id)) _ k in
-    let w : walkedOk (walk (drop 4 (answerBody c))) ≡ true = ap walkedOk (walk-answer c h) ∙ right-of (leb (c .result) 4) _ k₂ in
+    let w : walkedOk (c .result) (walk (drop 4 (answerBody c))) ≡ true = ap (walkedOk (c .result)) (walk-answer c h) ∙ right-of (leb (c .result) 4) _ k₂ in
     both-of _ _ (le-leb 4 (length (answerBody c)) (omega arith)) (both-of (odd (c .id)) _ (left-of _ _ k) (both-of (leb (c .result) 4) _ (left-of _ _ k₂) w))
 
 -- ---- lists of them: good, read back, and with the same IDs
