@@ -1,0 +1,4 @@
+pub mod Sound
+pub mod TenLaws
+pub mod RefusalLaws
+pub mod DeedLaws

@@ -1,0 +1,13 @@
+-- `fresh` meets its contract.
+-- Assumes nothing.
+use Rattle.association.specs.Record.{idle}
+use Rattle.association.proofs.RefusalLaws.{tests}
+use Rattle.association.proofs.refusals.fresh.Statement.{statement}
+use Rattle.association.proofs.refusals.fresh.Tie as tie
+
+returns : tie.Need-returns
+unfolding idle
+returns c = search tests
+
+pub fresh-spec : {M : Type 1} → statement M
+fresh-spec = tie.close (tie.spec returns)

@@ -1,0 +1,59 @@
+// The events by their numbers.
+ghost use mathlib.Core.Path.{_≡_};
+ghost use Rattle.association.specs.Events.{eventOfKind};
+ghost use Rattle.association.specs.Deeds.{abortFor};
+ghost use Rattle.association.specs.Machine.{localCell};
+
+// The event of a PDU of a kind, 1 to 7, or of an invalid one.
+pub fn event_of_kind(kind: u8) -> u8
+    ensures { λ r. ⌜ r ≡ eventOfKind kind ⌝ }
+{
+    if kind == 1 {
+        return 6;
+    }
+    if kind == 2 {
+        return 3;
+    }
+    if kind == 3 {
+        return 4;
+    }
+    if kind == 4 {
+        return 10;
+    }
+    if kind == 5 {
+        return 12;
+    }
+    if kind == 6 {
+        return 13;
+    }
+    if kind == 7 {
+        return 16;
+    }
+    19
+}
+
+// The number of the A-ABORT by which a received PDU of a type is answered at an event.
+pub fn abort_of(event: u8, first: u8) -> u8
+    ensures { λ r. ⌜ r ≡ abortFor event first ⌝ }
+{
+    if event != 19 {
+        return 3;
+    }
+    if first < 1 {
+        return 2;
+    }
+    if 7 < first {
+        return 2;
+    }
+    4
+}
+
+// The action at a local event, by its number, in a state; 0 where its cell is blank, and for a number that is no local event's.
+pub fn local_cell(number: u8, state: u8) -> u8
+    ensures { λ r. ⌜ r ≡ localCell number state ⌝ }
+{
+    if table::is_received(number) {
+        return 0;
+    }
+    table::cell(number, state)
+}

@@ -1,0 +1,45 @@
+-- `contents::proposed_ok` meets its contract. Assumes nothing.
+use Rattle.contents.specs.Contents.{good20H}
+use Rattle.contents.proofs.ContentLaws.{bodied}
+use Rattle.contents.proofs.context.proposed_ok.Statement.{statement}
+use Rattle.contents.proofs.context.proposed_ok.Tie as tie
+
+returns : tie.Need-returns
+unfolding good20H
+returns c = search bodied
+
+shared-slice-read-if2 : tie.Need-shared-slice-read-if2
+shared-slice-read-if2 c = search bodied
+
+returns-2 : tie.Need-returns-2
+unfolding good20H
+returns-2 c = search bodied
+
+sub-subs-ok : tie.Need-sub-subs-ok
+sub-subs-ok c = search bodied
+
+part-subs-ok-start : tie.Need-part-subs-ok-start
+part-subs-ok-start c = search bodied
+
+part-subs-ok-end : tie.Need-part-subs-ok-end
+part-subs-ok-end c = search bodied
+
+subs-ok-requires : tie.Need-subs-ok-requires
+subs-ok-requires c κs = search bodied
+
+returns-3 : tie.Need-returns-3
+unfolding good20H
+returns-3 c = search bodied
+
+pub proposed-ok-spec : {M : Type 1} → statement M
+proposed-ok-spec =
+    tie.close
+    (tie.spec
+    returns
+    shared-slice-read-if2
+    returns-2
+    sub-subs-ok
+    part-subs-ok-start
+    part-subs-ok-end
+    subs-ok-requires
+    returns-3)

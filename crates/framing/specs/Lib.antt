@@ -1,0 +1,12 @@
+pub mod Runs
+pub mod Rounds
+pub mod Framing
+pub mod Host
+pub mod Reference
+pub mod Engine
+pub mod Log
+pub mod Slots
+pub mod Line
+pub mod Steps
+pub mod ShutOut
+pub mod Toy

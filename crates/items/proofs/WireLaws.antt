@@ -1,0 +1,75 @@
+-- What is written as items is walked over as the same items.
+-- Assumes nothing.
+use Prim.Native.Nat.{ℕ, _+_, _-_, _*_, _/_, _%_, _≤_, _<_}
+use native.Mathlib.Omega.{arith}
+use mathlib.Core.Bool.{Bool, true, false, cond}
+use mathlib.Core.List.{List, [], _∷_, _++_, append-assoc, append-nil}
+use mathlib.Core.Path.{_≡_, refl, sym, ap, _∙_}
+use lib.ListN.{length, take, drop, length-append}
+use lib.Seq.{take-at, drop-at}
+use lib.Dec.{leb, eqb}
+use borrow.Author.Tests.{le-leb, eq-eqb}
+use Rattle.laws.specs.Lists.{all}
+use Rattle.laws.proofs.Booleans.{left-of, right-of}
+use Rattle.octets.specs.Octets.{be16}
+use Rattle.items.specs.Items.{Walk, done, broken, item, step, walk, filled, bodies, place, Rule, keeps}
+use Rattle.items.specs.Wire.{itemBytes, itemsBytes}
+use Rattle.items.proofs.WalkLaws.{walk-step, walk-nil}
+
+-- ---- one item
+size : (t : ℕ) (b rest : List ℕ) → be16 (itemBytes t b ++ rest) 2 ≡ length b
+unfolding itemBytes be16
+size t b rest = omega arith
+
+pub item-length : (t : ℕ) (b : List ℕ) → length (itemBytes t b) ≡ 4 + length b
+unfolding itemBytes
+item-length t b = omega arith
+
+pub walk-item : (t : ℕ) (b rest : List ℕ) → length b < 65536 → walk (itemBytes t b ++ rest) ≡ item t b (walk rest)
+unfolding itemBytes step
+walk-item t b rest h =
+    let n = length-append (itemBytes t b) rest in
+    let m = item-length t b in
+    let l : leb (4 + length b) (length (itemBytes t b ++ rest)) ≡ true = le-leb (4 + length b) (length (itemBytes t b ++ rest)) (omega arith) in
+    let d : drop (4 + length b) (itemBytes t b ++ rest) ≡ rest = drop-at (itemBytes t b) rest (4 + length b) m in
+    walk-step (itemBytes t b ++ rest) ∙ rw (size t b rest, l, take-at b rest (length b) refl, d)
+
+-- and nothing behind it
+pub walk-last : (t : ℕ) (b : List ℕ) → length b < 65536 → walk (itemBytes t b) ≡ item t b done
+walk-last t b h = ap walk (sym (append-nil (itemBytes t b))) ∙ (walk-item t b [] h ∙ ap (item t b) walk-nil)
+
+-- ---- items of one type, one for each body, and then w
+unfoldable pub run : ℕ → List (List ℕ) → Walk → Walk
+run t [] w = w
+run t (b ∷ bs) w = item t b (run t bs w)
+
+pub items-cons : (t : ℕ) (b : List ℕ) (bs : List (List ℕ)) → length (itemsBytes t (b ∷ bs)) ≡ 4 + length b + length (itemsBytes t bs)
+unfolding itemBytes
+items-cons t b bs = simp length-append (omega arith)
+
+pub walk-items : (t : ℕ) (bs : List (List ℕ)) (rest : List ℕ) → length (itemsBytes t bs) < 65536 → walk (itemsBytes t bs ++ rest) ≡ run t bs (walk rest)
+unfolding run
+walk-items t [] rest h = refl
+walk-items t (b ∷ bs) rest h =
+    let l = items-cons t b bs in
+    rw append-assoc (walk-item t b (itemsBytes t bs ++ rest) (omega arith) ∙ rw (walk-items t bs rest (omega arith)))
+
+pub bodies-run : (t : ℕ) (bs : List (List ℕ)) (w : Walk) → bodies t (run t bs w) ≡ bs ++ bodies t w
+unfolding run bodies
+bodies-run t [] w = refl
+bodies-run t (b ∷ bs) w = rw (eq-eqb t t refl, bodies-run t bs w)
+
+pub bodies-past : (u t : ℕ) (bs : List (List ℕ)) (w : Walk) → eqb t u ≡ false → bodies u (run t bs w) ≡ bodies u w
+unfolding run bodies
+bodies-past u t [] w h = refl
+bodies-past u t (b ∷ bs) w h = rw h (bodies-past u t bs w h)
+
+pub filled-run : (t : ℕ) (bs : List (List ℕ)) (w : Walk) → filled (run t bs w) ≡ filled w
+unfolding run filled
+filled-run t [] w = refl
+filled-run t (b ∷ bs) w = filled-run t bs w
+
+pub keeps-run : (R : Rule) (t st : ℕ) (bs : List (List ℕ)) (w : Walk) → all (R .good t) bs ≡ true → R .next st t ≡ st → keeps R st (run t bs w) ≡ keeps R st w
+unfolding keeps run
+keeps-run R t st [] w g n = refl
+keeps-run R t st (b ∷ bs) w g n = let e : R .good t b ≡ true = left-of _ _ g in rw (e, n) (keeps-run R t st bs w (right-of (R .good t b) _ g) n)

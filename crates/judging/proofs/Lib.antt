@@ -1,0 +1,5 @@
+pub mod Examples
+pub mod ValueLaws
+pub mod DataLaws
+pub mod KindLaws
+pub mod Agree

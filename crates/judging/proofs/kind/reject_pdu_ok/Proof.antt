@@ -1,0 +1,36 @@
+-- `judging::reject_pdu_ok` meets its contract. Assumes nothing.
+use Rattle.judging.specs.Pdu.{rejectPduOk}
+use Rattle.judging.proofs.KindLaws.{kinds}
+use Rattle.judging.proofs.kind.reject_pdu_ok.Statement.{statement}
+use Rattle.judging.proofs.kind.reject_pdu_ok.Tie as tie
+
+returns : tie.Need-returns
+unfolding rejectPduOk
+returns c = search kinds
+
+shared-slice-read-reject-ok : tie.Need-shared-slice-read-reject-ok
+shared-slice-read-reject-ok c = search kinds
+
+shared-slice-read-reject-ok-2 : tie.Need-shared-slice-read-reject-ok-2
+shared-slice-read-reject-ok-2 c = search kinds
+
+shared-slice-read-reject-ok-3 : tie.Need-shared-slice-read-reject-ok-3
+shared-slice-read-reject-ok-3 c = search kinds
+
+reject-ok-requires : tie.Need-reject-ok-requires
+reject-ok-requires c κs = search kinds
+
+returns-2 : tie.Need-returns-2
+unfolding rejectPduOk
+returns-2 c = search kinds
+
+pub reject-pdu-ok-spec : {M : Type 1} → statement M
+reject-pdu-ok-spec =
+    tie.close
+    (tie.spec
+    returns
+    shared-slice-read-reject-ok
+    shared-slice-read-reject-ok-2
+    shared-slice-read-reject-ok-3
+    reject-ok-requires
+    returns-2)

@@ -1,0 +1,4 @@
+pub mod Data
+pub mod Values
+pub mod Pdu
+pub mod Inner

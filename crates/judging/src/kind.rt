@@ -1,0 +1,157 @@
+// Which kind of PDU the bytes are.
+ghost use mathlib.Core.Path.{_≡_};
+ghost use mathlib.Core.Bool.{true};
+ghost use Rattle.judging.specs.Inner.{kindAs};
+ghost use Rattle.judging.specs.Pdu.{whole, requestOk, acceptOk, rejectPduOk, dataOk, releaseOk, abortPduOk, validAs, kindOf, acceptable as acceptableOf, maximumOf};
+use crate::data::pdvs_ok;
+use crate::values::abort_ok;
+use crate::values::reject_ok;
+
+fn is_whole(pdu: &[u8]) -> bool
+    ensures { λ r. ⌜ r ≡ whole (now (pdu .entry)) ⌝ }
+{
+    if pdu.len() < 6 {
+        return false;
+    }
+    let n = octets::be32_at(pdu, 2) as usize;
+    if pdu.len() - 6 != n {
+        return false;
+    }
+    n <= 16384
+}
+
+fn request_ok(pdu: &[u8]) -> bool
+    requires { ⌜ whole (now pdu) ≡ true ⌝ }
+    ensures { λ r. ⌜ r ≡ requestOk (now (pdu .entry)) ⌝ }
+{
+    if pdu.len() < 74 {
+        return false;
+    }
+    if !names::title_ok(&pdu[10..26]) {
+        return false;
+    }
+    if !names::title_ok(&pdu[26..42]) {
+        return false;
+    }
+    contents::items_ok(0x20, &pdu[74..])
+}
+
+fn accept_ok(pdu: &[u8]) -> bool
+    requires { ⌜ whole (now pdu) ≡ true ⌝ }
+    ensures { λ r. ⌜ r ≡ acceptOk (now (pdu .entry)) ⌝ }
+{
+    if pdu.len() < 74 {
+        return false;
+    }
+    if octets::be16_at(pdu, 6) % 2 != 1 {
+        return false;
+    }
+    contents::items_ok(0x21, &pdu[74..])
+}
+
+fn reject_pdu_ok(pdu: &[u8]) -> bool
+    requires { ⌜ whole (now pdu) ≡ true ⌝ }
+    ensures { λ r. ⌜ r ≡ rejectPduOk (now (pdu .entry)) ⌝ }
+{
+    if pdu.len() != 10 {
+        return false;
+    }
+    reject_ok(pdu[7], pdu[8], pdu[9])
+}
+
+fn data_ok(pdu: &[u8]) -> bool
+    requires { ⌜ whole (now pdu) ≡ true ⌝ }
+    ensures { λ r. ⌜ r ≡ dataOk (now (pdu .entry)) ⌝ }
+{
+    pdvs_ok(255, &pdu[6..])
+}
+
+fn release_ok(pdu: &[u8]) -> bool
+    requires { ⌜ whole (now pdu) ≡ true ⌝ }
+    ensures { λ r. ⌜ r ≡ releaseOk (now (pdu .entry)) ⌝ }
+{
+    pdu.len() == 10
+}
+
+fn abort_pdu_ok(pdu: &[u8]) -> bool
+    requires { ⌜ whole (now pdu) ≡ true ⌝ }
+    ensures { λ r. ⌜ r ≡ abortPduOk (now (pdu .entry)) ⌝ }
+{
+    if pdu.len() != 10 {
+        return false;
+    }
+    abort_ok(pdu[8], pdu[9])
+}
+
+fn valid_as(t: u8, pdu: &[u8]) -> bool
+    requires { ⌜ whole (now pdu) ≡ true ⌝ }
+    ensures { λ r. ⌜ r ≡ validAs t (now (pdu .entry)) ⌝ }
+{
+    if t == 1 {
+        return request_ok(pdu);
+    }
+    if t == 2 {
+        return accept_ok(pdu);
+    }
+    if t == 3 {
+        return reject_pdu_ok(pdu);
+    }
+    if t == 4 {
+        return data_ok(pdu);
+    }
+    if t == 5 {
+        return release_ok(pdu);
+    }
+    if t == 6 {
+        return release_ok(pdu);
+    }
+    if t == 7 {
+        return abort_pdu_ok(pdu);
+    }
+    false
+}
+
+// The type where the PDU is valid as such, else 0.
+fn kind_as(t: u8, pdu: &[u8]) -> u8
+    requires { ⌜ whole (now pdu) ≡ true ⌝ }
+    ensures { λ r. ⌜ r ≡ kindAs t (now (pdu .entry)) ⌝ }
+{
+    if valid_as(t, pdu) {
+        return t;
+    }
+    0
+}
+
+// The kind, 1 to 7 as its type; 0 where the bytes are no whole valid PDU.
+pub fn kind_of(pdu: &[u8]) -> u8
+    ensures { λ r. ⌜ r ≡ kindOf (now (pdu .entry)) ⌝ }
+{
+    if !is_whole(pdu) {
+        return 0;
+    }
+    kind_as(pdu[0], pdu)
+}
+
+// Whether the bytes are a valid RQ with version bit 0.
+pub fn acceptable(pdu: &[u8]) -> bool
+    ensures { λ r. ⌜ r ≡ acceptableOf (now (pdu .entry)) ⌝ }
+{
+    if kind_of(pdu) != 1 {
+        return false;
+    }
+    octets::be16_at(pdu, 6) % 2 == 1
+}
+
+// The maximum of a valid RQ or AC; 0 of any other bytes.
+pub fn maximum_of(pdu: &[u8]) -> u32
+    ensures { λ r. ⌜ r ≡ maximumOf (now (pdu .entry)) ⌝ }
+{
+    let k = kind_of(pdu);
+    if k == 1 {
+        return contents::maximum_in(&pdu[74..]);
+    }
+    if k == 2 {
+        return contents::maximum_in(&pdu[74..]);
+    }
+    0
+}

@@ -1,0 +1,40 @@
+-- "Reading a PDV by its number, from 0, hands back the fragment's own part of the gathered PDU. A number past the last is refused with 4."
+use Prim.Native.Nat.{ℕ, _+_}
+use mathlib.Core.Bool.{cond}
+use mathlib.Core.List.{List, []}
+use lib.ListN.{length, take, drop, getD}
+use lib.Dec.{ltb, eqb}
+use Rattle.judging.specs.Data.{Pdv, pdvs, size}
+use Rattle.judging.specs.Pdu.{kindOf}
+use Rattle.reading.specs.declared.data.DataRead.{DataRead}
+
+-- the PDVs of a P-DATA-TF
+unfoldable pub pdvsOf : List ℕ → List Pdv
+pdvsOf pdu = pdvs (drop 6 pdu)
+
+-- PDV n of a list
+unfoldable pub pdv : List Pdv → ℕ → Pdv
+pdv ps n = getD ps n (record { id = 0; control = 0; fragment = [] })
+
+-- where its fragment starts in the PDU: behind the header, the PDVs before it, and its own length, ID and control byte
+unfoldable pub startOf : List Pdv → ℕ → ℕ
+startOf ps n = 6 + size (take n ps) + 6
+
+-- 7, no whole valid P-DATA-TF; then 4, a number past the last
+unfoldable pub dataOf : List ℕ → ℕ → DataRead
+dataOf pdu n =
+    cond (eqb (kindOf pdu) 4)
+    (cond (ltb n (length (pdvsOf pdu)))
+    (record {
+      refusal = 0;
+      id = pdv (pdvsOf pdu) n .id;
+      control = pdv (pdvsOf pdu) n .control;
+      start = startOf (pdvsOf pdu) n;
+      len = length (pdv (pdvsOf pdu) n .fragment);
+    })
+    (record { refusal = 4; id = 0; control = 0; start = 0; len = 0 }))
+    (record { refusal = 7; id = 0; control = 0; start = 0; len = 0 })
+
+-- the part of the PDU from that start, of that length: the fragment (DataLaws.fragment-is), and nothing where refused
+unfoldable pub fragmentOf : List ℕ → ℕ → List ℕ
+fragmentOf pdu n = take (dataOf pdu n .len) (drop (dataOf pdu n .start) pdu)

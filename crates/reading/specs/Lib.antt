@@ -1,0 +1,4 @@
+pub mod Associate
+pub mod Values
+pub mod Data
+pub mod Inner

@@ -1,0 +1,77 @@
+// Reading a PDV by its number.
+ghost use mathlib.Core.Path.{_≡_};
+ghost use mathlib.Core.Bool.{true};
+ghost use Prim.Native.Nat.{_≤_};
+ghost use lib.ListN.{length, take};
+ghost use Rattle.judging.specs.Data.{pdvs, size};
+ghost use Rattle.reading.specs.Data.{dataOf, fragmentOf};
+
+// refusal: 0, or 7 or 4 with all else 0. The fragment starts at start, counted from the PDU's first byte, and has len bytes.
+pub struct DataRead {
+    pub refusal: u8,
+    pub id: u8,
+    pub control: u8,
+    pub start: usize,
+    pub len: usize,
+}
+
+// How many bytes of a P-DATA-TF's body the PDV items before a number take; all of them where there are no more than that.
+fn place_of(number: usize, s: &[u8]) -> usize
+    ensures { λ r. ⌜ r ≡ size (take number (pdvs (now (s .entry)))) ⌝ }
+{
+    let mut at = 0;
+    let mut k = 0;
+    while k < number {
+        let e = judging::pdv_end(s, at);
+        if e == 0 {
+            return at;
+        }
+        at = e;
+        k += 1;
+    }
+    at
+}
+
+// PDV `number`, from 0.
+pub fn read_data(pdu: &[u8], number: usize) -> DataRead
+    ensures { λ r. ⌜ r ≡ dataOf (now (pdu .entry)) number ⌝ }
+{
+    if judging::kind_of(pdu) != 4 {
+        return DataRead {
+            refusal: 7,
+            id: 0,
+            control: 0,
+            start: 0,
+            len: 0,
+        };
+    }
+    let s = &pdu[6..];
+    let at = place_of(number, s);
+    let e = judging::pdv_end(s, at);
+    if e == 0 {
+        return DataRead {
+            refusal: 4,
+            id: 0,
+            control: 0,
+            start: 0,
+            len: 0,
+        };
+    }
+    DataRead {
+        refusal: 0,
+        id: s[at + 4],
+        control: s[at + 5],
+        start: 6 + at + 6,
+        len: e - (at + 6),
+    }
+}
+
+// The fragment's own part of the PDU; empty where read_data refuses.
+pub fn fragment(pdu: &[u8], number: usize) -> &[u8]
+    ensures { λ r. ⌜ now r ≡ fragmentOf (now (pdu .entry)) number ⌝ }
+{
+    let d = read_data(pdu, number);
+    let start = d.start;
+    let end = start + d.len;
+    &pdu[start..end]
+}

@@ -1,0 +1,66 @@
+// One call on a piece.
+use crate::deeds;
+use crate::gather;
+use crate::gather::Head;
+use association::Answer;
+use association::Assoc;
+use association::Told;
+ghost use mathlib.Core.Path.{_≡_};
+ghost use Rattle.association.specs.Calls.{call, receiveRefusal, receiveOf};
+ghost use Rattle.receiving.specs.Steps.{quietOf};
+
+fn receive_refusal(a: Assoc, gather: &[u8], out: &[u8]) -> u8
+    ensures { λ r. ⌜ r ≡ receiveRefusal a (now (gather .entry)) (now (out .entry)) ⌝ }
+{
+    let number = association::record_refusal(a, gather, 16390);
+    if number != 0 {
+        return number;
+    }
+    if out.len() < 10 {
+        return 2;
+    }
+    0
+}
+
+// No event: so many bytes are gathered now, and so many were used.
+fn quiet(a: Assoc, gathered: usize, used: usize) -> Answer
+    ensures { λ r. ⌜ r ≡ quietOf a gathered used ⌝ }
+{
+    let mut assoc = a;
+    assoc.gathered = gathered;
+    Answer {
+        told: Told {
+            refusal: 0,
+            action: 0,
+            used,
+            sent: 0,
+            shown: 0,
+        },
+        assoc,
+    }
+}
+
+// One call on a piece: it uses the bytes through the one that brings an event, else the whole piece.
+pub fn receive(a: Assoc, gather: &mut [u8], piece: &[u8], out: &mut [u8]) -> Answer
+    ensures { λ r. ⌜ call r (now (gather .exit)) (now (out .exit)) ≡ receiveOf a (now (gather .entry)) (now (piece .entry)) (now (out .entry)) ⌝ }
+{
+    let number = receive_refusal(a, gather, out);
+    if number != 0 {
+        return association::refused(number, a);
+    }
+    let at = a.gathered;
+    if association::dropping(a) {
+        return quiet(a, at, piece.len());
+    }
+    let got = gather::gather(gather, at, piece);
+    let used = got.used;
+    let head = got.head;
+    match head {
+        Head::Short => quiet(a, at + used, used),
+        Head::Long => deeds::do_long(a, used, out),
+        Head::Whole => {
+            let n = at + used;
+            deeds::do_pdu(a, &gather[..n], used, out)
+        }
+    }
+}

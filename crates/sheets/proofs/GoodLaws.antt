@@ -1,0 +1,282 @@
+-- Laws of good records and sheets: each way through the tests, and that the records tested one by one give the rule over the contexts.
+-- Assumes nothing.
+use Prim.Native.Nat.{ℕ, _+_, _-_, _%_, _≤_, _<_}
+use native.Mathlib.Omega.{arith}
+use mathlib.Core.Bool.{Bool, true, false, not, _&&_, cond, and-false}
+use mathlib.Core.List.{List, [], _∷_, map}
+use mathlib.Core.Path.{_≡_, refl, sym, ap, _∙_}
+use lib.ListN.{length, take, drop, getD, length-drop, length-map}
+use lib.Seq.{length-take-le}
+use lib.Dec.{leb, eqb}
+use borrow.Author.Needs.{needs}
+use borrow.Author.Tests.{le-leb, lt-leb, eq-eqb, ne-eqb, eqb-true, not-true, not-false}
+use Rattle.laws.specs.Lists.{all, distinct, sameBytes}
+use Rattle.laws.proofs.Booleans.{left-of, right-of, held}
+use Rattle.laws.proofs.Places.{all-passes, all-fails, all-end, part-tail}
+use Rattle.laws.proofs.Same.{same-equal}
+use Rattle.names.specs.Name.{nameOk}
+use Rattle.sheets.specs.Contexts.{Context, Answered, contextId, answeredId, odd, contextOk, transferOk, answeredOk, contextsOk, allAnsweredOk}
+use Rattle.sheets.specs.Sheet.{recordId, abstractOf, transferOf, recordsOf, goesOn, firstTransfers, others, start, runs, contextsIn, answeredOf, answersIn, zero?, fieldOk, fieldsOk, proposes, answers, proposalOk, answersOk}
+use Rattle.sheets.specs.Record.{recordAt}
+use Rattle.sheets.specs.Parts.{proposalRecord, answerRecord, recordOk, idsIn}
+use Rattle.sheets.proofs.RunLaws.{records-cons, records-none, record-here, contexts-here, contexts-none, no-run}
+
+-- ---- `zeros`
+module _ (s : List ℕ) (i : ℕ) (v : all zero? (drop i s) ≡ all zero? s) where
+  pub zeros-next : i < length s → getD s i 0 ≡ 0 → all zero? (drop (i + 1) s) ≡ all zero? s
+  zeros-next h e = sym (all-passes zero? s i h (eq-eqb _ _ e)) ∙ v
+
+  pub zeros-bad : i < length s → (getD s i 0 ≡ 0 → ⊥) → false ≡ all zero? s
+  zeros-bad h n = sym (sym v ∙ all-fails zero? s i h (ne-eqb _ _ n))
+
+  pub zeros-end : length s ≤ i → true ≡ all zero? s
+  zeros-end h = sym (sym v ∙ all-end zero? s i h)
+
+pub ruleset zero-laws = (needs, zeros-next, zeros-bad, zeros-end)
+
+-- ---- `field_ok`, `fields_ok`
+module _ (n : ℕ) (f : List ℕ) where
+  pub field-long : 64 < n → false ≡ fieldOk n f
+  unfolding fieldOk
+  field-long h = simp (lt-leb n 64 h)
+
+  pub field-rest : (z : Bool) → n ≤ 64 → z ≡ all zero? (take (length f - n) (drop n f)) → z ≡ fieldOk n f
+  unfolding fieldOk
+  field-rest z h q = q ∙ (rw (part-tail n f) (simp (le-leb n 64 h)))
+
+pub ruleset field-laws = (needs, field-long, field-rest)
+
+module _ (r : List ℕ) where
+  pub fields-bad : (b : Bool) → b ≡ fieldOk (getD r 2 0) (take 64 (drop 4 r)) → not b ≡ true → false ≡ fieldsOk r
+  unfolding fieldsOk
+  fields-bad b q t = simp (sym q ∙ not-true b t)
+
+  pub fields-rest : (b d : Bool) → b ≡ fieldOk (getD r 2 0) (take 64 (drop 4 r)) → not b ≡ false → d ≡ fieldOk (getD r 3 0) (take (length r - 68) (drop 68 r)) → d ≡ fieldsOk r
+  unfolding fieldsOk
+  fields-rest b d q t x = x ∙ (rw (part-tail 68 r) (simp (sym q ∙ not-false b t)))
+
+  pub second-long : length r ≡ 132 → length (take (length r - 68) (drop 68 r)) ≡ 64
+  second-long h = rw (part-tail 68 r) (omega (arith, length-drop 68 r))
+
+  pub first-long : length r ≡ 132 → length (take 64 (drop 4 r)) ≡ 64
+  first-long h = length-take-le 64 (drop 4 r) (omega (arith, length-drop 4 r))
+
+pub ruleset fields-laws = (needs, fields-bad, fields-rest, second-long, first-long)
+
+-- ---- one record of a proposal
+module _ (r : List ℕ) where
+  pub proposal-result : (getD r 1 0 ≡ 0 → ⊥) → false ≡ proposalRecord r
+  unfolding proposalRecord proposes
+  proposal-result n = simp (ne-eqb _ _ n)
+
+  module _ (f : Bool) (z : getD r 1 0 ≡ 0) (q : f ≡ fieldsOk r) where
+    pub proposal-fields : not f ≡ true → false ≡ proposalRecord r
+    unfolding proposalRecord proposes
+    proposal-fields t = simp (eq-eqb _ _ z, sym q ∙ not-true f t)
+
+    module _ (t : not f ≡ false) where
+      pub proposal-even : (getD r 0 0 % 2 ≡ 1 → ⊥) → false ≡ proposalRecord r
+      unfolding proposalRecord proposes
+      proposal-even n = simp (eq-eqb _ _ z, sym q ∙ not-false f t, ne-eqb _ _ n)
+
+      pub proposal-abstract : (a : List ℕ) (b : Bool) → getD r 0 0 % 2 ≡ 1 → a ≡ abstractOf r → b ≡ nameOk a → not b ≡ true → false ≡ proposalRecord r
+      unfolding proposalRecord proposes
+      proposal-abstract a b o e p u = simp (eq-eqb _ _ z, sym q ∙ not-false f t, eq-eqb _ _ o, ap nameOk (sym e) ∙ (sym p ∙ not-true b u))
+
+      pub proposal-rest : (a x : List ℕ) (b d : Bool) → getD r 0 0 % 2 ≡ 1 → a ≡ abstractOf r → b ≡ nameOk a → not b ≡ false → x ≡ transferOf r → d ≡ nameOk x → d ≡ proposalRecord r
+      unfolding proposalRecord proposes
+      proposal-rest a x b d o e p u g w = w ∙ (rw g (simp (eq-eqb _ _ z, sym q ∙ not-false f t, eq-eqb _ _ o, ap nameOk (sym e) ∙ (sym p ∙ not-false b u))))
+
+pub ruleset proposal-record-laws = (needs, proposal-result, proposal-fields, proposal-even, proposal-abstract, proposal-rest)
+
+-- ---- one record of an answer
+pub transfer-test : (result : ℕ) (x : List ℕ) (b : Bool) → b ≡ nameOk x → b ≡ transferOk result x
+unfolding transferOk
+transfer-test result x b e = e
+
+pub ruleset transfer-laws = (needs, transfer-test)
+
+module _ (r : List ℕ) where
+  pub answer-abstract : (getD r 2 0 ≡ 0 → ⊥) → false ≡ answerRecord r
+  unfolding answerRecord answers
+  answer-abstract n = simp (ne-eqb _ _ n)
+
+  module _ (f : Bool) (z : getD r 2 0 ≡ 0) (q : f ≡ fieldsOk r) where
+    pub answer-fields : not f ≡ true → false ≡ answerRecord r
+    unfolding answerRecord answers
+    answer-fields t = simp (eq-eqb _ _ z, sym q ∙ not-true f t)
+
+    module _ (t : not f ≡ false) where
+      pub answer-even : (getD r 0 0 % 2 ≡ 1 → ⊥) → false ≡ answerRecord r
+      unfolding answerRecord answers answeredOk answeredOf
+      answer-even n = simp (eq-eqb _ _ z, sym q ∙ not-false f t, ne-eqb _ _ n)
+
+      pub answer-result : getD r 0 0 % 2 ≡ 1 → 4 < getD r 1 0 → false ≡ answerRecord r
+      unfolding answerRecord answers answeredOk answeredOf
+      answer-result o h = simp (eq-eqb _ _ z, sym q ∙ not-false f t, eq-eqb _ _ o, lt-leb _ _ h)
+
+      pub answer-rest : (x : List ℕ) (d : Bool) → getD r 0 0 % 2 ≡ 1 → getD r 1 0 ≤ 4 → x ≡ transferOf r → d ≡ transferOk (getD r 1 0) x → d ≡ answerRecord r
+      unfolding answerRecord answers answeredOk answeredOf
+      answer-rest x d o h g w = w ∙ (rw g (simp (eq-eqb _ _ z, sym q ∙ not-false f t, eq-eqb _ _ o, le-leb _ _ h)))
+
+pub ruleset answer-record-laws = (needs, answer-abstract, answer-fields, answer-even, answer-result, answer-rest)
+
+pub as-answer : (answer b : Bool) (r : List ℕ) → answer ≡ true → b ≡ answerRecord r → b ≡ recordOk answer r
+unfolding recordOk
+as-answer answer b r t e = rw t e
+
+pub as-proposal : (answer b : Bool) (r : List ℕ) → answer ≡ false → b ≡ proposalRecord r → b ≡ recordOk answer r
+unfolding recordOk
+as-proposal answer b r t e = rw t e
+
+pub ruleset as-laws = (needs, as-answer, as-proposal)
+
+-- ---- `records_ok`
+module _ (k : Bool) (s : List ℕ) (at : ℕ) (v : all (recordOk k) (recordsOf (drop at s)) ≡ all (recordOk k) (recordsOf s)) (w : length s % 132 ≡ 0) (z : at % 132 ≡ 0) where
+  pub all-next : (x : List ℕ) (b : Bool) → at < length s → x ≡ take 132 (drop at s) → b ≡ recordOk k x → not b ≡ false → all (recordOk k) (recordsOf (drop (at + 132) s)) ≡ all (recordOk k) (recordsOf s)
+  all-next x b h e q t =
+      let g : recordOk k (take 132 (drop at s)) ≡ true = ap (recordOk k) (sym e) ∙ (sym q ∙ not-false b t) in
+      simp (record-here s at (omega arith), g) at v
+
+  pub all-bad : (x : List ℕ) (b : Bool) → at < length s → x ≡ take 132 (drop at s) → b ≡ recordOk k x → not b ≡ true → false ≡ all (recordOk k) (recordsOf s)
+  all-bad x b h e q t =
+      let g : recordOk k (take 132 (drop at s)) ≡ false = ap (recordOk k) (sym e) ∙ (sym q ∙ not-true b t) in
+      simp (record-here s at (omega arith), g) at v
+
+  pub all-done : length s ≤ at → true ≡ all (recordOk k) (recordsOf s)
+  all-done h = simp (records-none (drop at s) (omega (arith, length-drop at s))) at v
+
+pub ruleset all-laws = (needs, all-next, all-bad, all-done)
+
+-- ---- records tested one by one give the rule over the contexts
+
+-- a conjunction of conjunctions, the other way round
+across : (a b c d : Bool) → ((a && b) && (c && d)) ≡ ((a && c) && (b && d))
+across true true c d = refl
+across true false true d = refl
+across true false false d = refl
+across false b c d = refl
+
+-- the transfer names of each are one or more
+some : Context → Bool
+some c = leb 1 (length (c .transfers))
+
+start-some : (r : List ℕ) (cs : List Context) → all some cs ≡ true → all some (start r cs) ≡ true
+unfolding start some
+start-some r cs k = go cs (goesOn r cs) k
+  where
+    go : (cs : List Context) (b : Bool) → all some cs ≡ true → (leb 1 (length (transferOf r ∷ cond b (firstTransfers cs) [])) && all some (cond b (others cs) cs)) ≡ true
+    go cs false k = k
+    go [] true k = refl
+    go (c ∷ cs) true k = rw (le-leb 1 (length (transferOf r ∷ c .transfers)) (omega arith)) (right-of (some c) _ k)
+
+runs-some : (rs : List (List ℕ)) → all some (runs rs) ≡ true
+unfolding runs
+runs-some [] = refl
+runs-some (r ∷ rs) = start-some r (runs rs) (runs-some rs)
+
+-- what a record by itself makes good
+abbrev alone : List ℕ → Bool
+alone r = odd (recordId r) && (nameOk (abstractOf r) && nameOk (transferOf r))
+
+join : (o a t l b x : Bool) → l ≡ true → ((o && (a && (t && b))) && x) ≡ ((o && (a && t)) && ((o && (a && (l && b))) && x))
+join true true true true b x e = refl
+join true true false l b x e = refl
+join true false t l b x e = refl
+join false a t l b x e = refl
+join true true true false b x e = absurd (held false e)
+
+lone : (o a t x : Bool) → ((o && (a && (t && true))) && x) ≡ ((o && (a && t)) && x)
+lone true true true x = refl
+lone true true false x = refl
+lone true false t x = refl
+lone false a t x = refl
+
+start-good : (r : List ℕ) (cs : List Context) → all some cs ≡ true → all contextOk (start r cs) ≡ (alone r && all contextOk cs)
+unfolding start goesOn contextOk some
+start-good r cs k = go cs (goesOn r cs) refl k
+  where
+    go : (cs : List Context) (b : Bool) → goesOn r cs ≡ b → all some cs ≡ true
+        → all contextOk (record { id = recordId r; abstr = abstractOf r; transfers = transferOf r ∷ cond b (firstTransfers cs) [] } ∷ cond b (others cs) cs) ≡ (alone r && all contextOk cs)
+    go cs false e k = lone (odd (recordId r)) (nameOk (abstractOf r)) (nameOk (transferOf r)) (all contextOk cs)
+    go [] true e k = absurd (no-run r e)
+    go (c ∷ cs) true e k =
+        let i : recordId r ≡ c .id = eqb-true _ _ (left-of (eqb (recordId r) (c .id)) (sameBytes (abstractOf r) (c .abstr)) e) in
+        let a : abstractOf r ≡ c .abstr = same-equal _ _ (held _ (right-of (eqb (recordId r) (c .id)) (sameBytes (abstractOf r) (c .abstr)) e)) in
+        rw (le-leb 1 (length (transferOf r ∷ c .transfers)) (omega arith), i, a)
+        (join (odd (c .id)) (nameOk (c .abstr)) (nameOk (transferOf r)) (leb 1 (length (c .transfers))) (all nameOk (c .transfers)) (all contextOk cs) (left-of (some c) _ k))
+
+pub records-proposal : (rs : List (List ℕ)) → all (recordOk false) rs ≡ (all proposes rs && all contextOk (runs rs))
+unfolding runs recordOk proposalRecord
+records-proposal [] = refl
+records-proposal (r ∷ rs) = rw (records-proposal rs, start-good r (runs rs) (runs-some rs)) (across (proposes r) (alone r) (all proposes rs) (all contextOk (runs rs)))
+
+pub records-answer : (rs : List (List ℕ)) → all (recordOk true) rs ≡ (all answers rs && all answeredOk (map answeredOf rs))
+unfolding recordOk answerRecord
+records-answer [] = refl
+records-answer (r ∷ rs) = rw (records-answer rs) (across (answers r) (answeredOk (answeredOf r)) (all answers rs) (all answeredOk (map answeredOf rs)))
+
+-- ---- `proposal_ok`
+together : (p c d : Bool) → (p && (c && d)) ≡ ((p && c) && d)
+together true c d = refl
+together false c d = refl
+
+module _ (s : List ℕ) where
+  pub proposal-none : length s ≡ 0 → false ≡ proposalOk s
+  unfolding proposalOk contextsOk
+  proposal-none e = rw (contexts-none s 0 (omega arith)) (simp and-false)
+
+  pub proposal-part : (length s % 132 ≡ 0 → ⊥) → false ≡ proposalOk s
+  unfolding proposalOk
+  proposal-part n = simp (ne-eqb _ _ n)
+
+  module _ (n : length s ≡ 0 → ⊥) (m : length s % 132 ≡ 0) where
+    some-context : leb 1 (length (contextsIn s)) ≡ true
+    unfolding start
+    some-context = let e = ap length (contexts-here s 0 (omega arith)) in le-leb 1 (length (contextsIn s)) (omega arith)
+
+    proposal-is : proposalOk s ≡ (all (recordOk false) (recordsOf s) && distinct (map contextId (contextsIn s)))
+    unfolding proposalOk contextsOk contextsIn
+    proposal-is = rw (eq-eqb _ _ m, some-context, records-proposal (recordsOf s)) (together (all proposes (recordsOf s)) (all contextOk (contextsIn s)) (distinct (map contextId (contextsIn s))))
+
+    pub proposal-bad : (b : Bool) → b ≡ all (recordOk false) (recordsOf s) → not b ≡ true → false ≡ proposalOk s
+    proposal-bad b q t = sym (proposal-is ∙ simp (sym q ∙ not-true b t))
+
+    pub proposal-good : (b d : Bool) → b ≡ all (recordOk false) (recordsOf s) → not b ≡ false → d ≡ distinct (map contextId (contextsIn s)) → d ≡ proposalOk s
+    proposal-good b d q t x = x ∙ sym (proposal-is ∙ simp (sym q ∙ not-false b t))
+
+pub ruleset proposal-laws = (needs, proposal-none, proposal-part, proposal-bad, proposal-good)
+
+-- ---- `answers_ok`
+answered-ids : (rs : List (List ℕ)) → map answeredId (map answeredOf rs) ≡ map recordId rs
+unfolding answeredOf
+answered-ids [] = refl
+answered-ids (r ∷ rs) = rw (answered-ids rs)
+
+module _ (s : List ℕ) where
+  pub answers-none : length s ≡ 0 → false ≡ answersOk s
+  unfolding answersOk allAnsweredOk answersIn
+  answers-none e = rw (records-none s (omega arith)) (simp and-false)
+
+  pub answers-part : (length s % 132 ≡ 0 → ⊥) → false ≡ answersOk s
+  unfolding answersOk
+  answers-part n = simp (ne-eqb _ _ n)
+
+  module _ (n : length s ≡ 0 → ⊥) (m : length s % 132 ≡ 0) where
+    some-answer : leb 1 (length (answersIn s)) ≡ true
+    unfolding answersIn
+    some-answer = let e = ap length (records-cons s (omega arith)) in le-leb 1 (length (answersIn s)) (omega (arith, length-map (recordsOf s) answeredOf))
+
+    answers-is : answersOk s ≡ (all (recordOk true) (recordsOf s) && distinct (idsIn s))
+    unfolding answersOk allAnsweredOk answersIn idsIn
+    answers-is =
+        rw (eq-eqb _ _ m, some-answer, records-answer (recordsOf s), ← answered-ids (recordsOf s))
+        (together (all answers (recordsOf s)) (all answeredOk (map answeredOf (recordsOf s))) (distinct (map answeredId (map answeredOf (recordsOf s)))))
+
+    pub answers-bad : (b : Bool) → b ≡ all (recordOk true) (recordsOf s) → not b ≡ true → false ≡ answersOk s
+    answers-bad b q t = sym (answers-is ∙ simp (sym q ∙ not-true b t))
+
+    pub answers-good : (b d : Bool) → b ≡ all (recordOk true) (recordsOf s) → not b ≡ false → d ≡ distinct (idsIn s) → d ≡ answersOk s
+    answers-good b d q t x = x ∙ sym (answers-is ∙ simp (sym q ∙ not-false b t))
+
+pub ruleset answers-laws = (needs, answers-none, answers-part, answers-bad, answers-good)

@@ -1,0 +1,17 @@
+-- `abstract_of` meets its contract.
+-- Assumes nothing.
+use Rattle.sheets.proofs.RecordLaws.{part-laws}
+use Rattle.sheets.proofs.record.abstract_of.Statement.{statement}
+use Rattle.sheets.proofs.record.abstract_of.Tie as tie
+
+pub abstract-of-spec : {M : Type 1} → statement M
+abstract-of-spec =
+    tie.close
+    (tie.spec
+    (λ c. search part-laws)  -- shared-slice-read-cap-of
+    (λ c κs. search part-laws)  -- cap-of-requires
+    (λ c. search part-laws)  -- add-e
+    (λ c. search part-laws)  -- sub-result
+    (λ c. search part-laws)  -- part-result-start
+    (λ c. search part-laws)  -- part-result-end
+    (λ c. search part-laws))  -- returns

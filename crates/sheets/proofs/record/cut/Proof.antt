@@ -1,0 +1,13 @@
+-- `cut` meets its contract.
+-- Assumes nothing.
+use Rattle.sheets.proofs.RecordLaws.{cut-laws}
+use Rattle.sheets.proofs.record.cut.Statement.{statement}
+use Rattle.sheets.proofs.record.cut.Tie as tie
+
+pub cut-spec : {M : Type 1} → statement M
+cut-spec =
+    tie.close
+    (tie.spec
+    (λ c. search cut-laws)  -- returns
+    (λ c. search cut-laws)  -- slice-aggregate-result
+    (λ c. search cut-laws))  -- returns-2

@@ -1,0 +1,15 @@
+-- `record_at` meets its contract.
+-- Assumes nothing.
+use Rattle.sheets.proofs.RecordLaws.{part-laws}
+use Rattle.sheets.proofs.record.record_at.Statement.{statement}
+use Rattle.sheets.proofs.record.record_at.Tie as tie
+
+pub record-at-spec : {M : Type 1} → statement M
+record-at-spec =
+    tie.close
+    (tie.spec
+    (λ c. search part-laws)  -- add-e
+    (λ c. search part-laws)  -- sub-result
+    (λ c. search part-laws)  -- part-result-start
+    (λ c. search part-laws)  -- part-result-end
+    (λ c. search part-laws))  -- returns

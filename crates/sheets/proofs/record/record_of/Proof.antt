@@ -1,0 +1,14 @@
+-- `record_of` meets its contract.
+-- Assumes nothing.
+use Rattle.sheets.proofs.RecordLaws.{record-laws}
+use Rattle.sheets.proofs.record.record_of.Statement.{statement}
+use Rattle.sheets.proofs.record.record_of.Tie as tie
+
+pub record-of-spec : {M : Type 1} → statement M
+record-of-spec =
+    tie.close
+    (tie.spec
+    (λ c κs. search record-laws)  -- cut-requires
+    (λ c κs. search record-laws)  -- cut-requires-2
+    (λ c κs. search record-laws)  -- fill-record-requires
+    (λ c. search record-laws))  -- returns

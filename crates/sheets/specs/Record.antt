@@ -1,0 +1,26 @@
+-- One record of a sheet: what the calls that make one, or look at one, answer. Outside the sheet they answer nothing.
+use Prim.Native.Nat.{ℕ, _+_}
+use mathlib.Core.Bool.{Bool, false, _&&_, cond}
+use mathlib.Core.List.{List, []}
+use lib.ListN.{length, take, drop, getD}
+use lib.Dec.{leb, eqb}
+use Rattle.laws.specs.Lists.{sameBytes}
+use Rattle.sheets.specs.Sheet.{recordBytes, abstractOf, transferOf}
+
+-- a record with these names; of a name longer than its field the first 64 bytes
+unfoldable pub recordOf : ℕ → ℕ → List ℕ → List ℕ → List ℕ
+recordOf id result a x = recordBytes id result (take 64 a) (take 64 x)
+
+abbrev pub recordAt : List ℕ → ℕ → List ℕ
+recordAt s at = take 132 (drop at s)
+
+-- the names of the record at a place
+unfoldable pub abstractAt : List ℕ → ℕ → List ℕ
+abstractAt s at = cond (leb (at + 132) (length s)) (abstractOf (recordAt s at)) []
+
+unfoldable pub transferAt : List ℕ → ℕ → List ℕ
+transferAt s at = cond (leb (at + 132) (length s)) (transferOf (recordAt s at)) []
+
+-- the record behind the one at a place goes on its run: "equal ID and abstract name"
+unfoldable pub goesOnAt : List ℕ → ℕ → Bool
+goesOnAt s at = cond (leb (at + 132 + 132) (length s)) (eqb (getD s at 0) (getD s (at + 132) 0) && sameBytes (abstractAt s at) (abstractAt s (at + 132))) false

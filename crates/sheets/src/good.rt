@@ -1,0 +1,150 @@
+// Whether a sheet may be sent as a proposal, or as an answer.
+ghost use mathlib.Core.Path.{_≡_};
+ghost use Prim.Native.Nat.{_%_};
+ghost use lib.ListN.{length};
+ghost use Rattle.laws.specs.Lists.{all};
+ghost use Rattle.sheets.specs.Contexts.{transferOk};
+ghost use Rattle.sheets.specs.Sheet.{recordsOf, zero?, fieldOk, fieldsOk, proposalOk, answersOk};
+ghost use Rattle.sheets.specs.Parts.{proposalRecord, answerRecord, recordOk};
+use crate::ids::ids_differ;
+use crate::ids::runs_differ;
+use crate::record::abstract_of;
+use crate::record::record_at;
+use crate::record::transfer_of;
+
+fn zeros(s: &[u8]) -> bool
+    ensures { λ r. ⌜ r ≡ all zero? (now (s .entry)) ⌝ }
+{
+    let mut i = 0;
+    while i < s.len() {
+        if s[i] != 0 {
+            return false;
+        }
+        i += 1;
+    }
+    true
+}
+
+// Whether the field behind a name of n bytes is unused.
+fn field_ok(n: u8, f: &[u8]) -> bool
+    requires { ⌜ length (now f) ≡ 64 ⌝ }
+    ensures { λ r. ⌜ r ≡ fieldOk n (now (f .entry)) ⌝ }
+{
+    if 64 < n {
+        return false;
+    }
+    let k = n as usize;
+    zeros(&f[k..])
+}
+
+fn fields_ok(r: &[u8]) -> bool
+    requires { ⌜ length (now r) ≡ 132 ⌝ }
+    ensures { λ b. ⌜ b ≡ fieldsOk (now (r .entry)) ⌝ }
+{
+    if !field_ok(r[2], &r[4..68]) {
+        return false;
+    }
+    field_ok(r[3], &r[68..])
+}
+
+fn proposal_record(r: &[u8]) -> bool
+    requires { ⌜ length (now r) ≡ 132 ⌝ }
+    ensures { λ b. ⌜ b ≡ proposalRecord (now (r .entry)) ⌝ }
+{
+    if r[1] != 0 {
+        return false;
+    }
+    if !fields_ok(r) {
+        return false;
+    }
+    if r[0] % 2 != 1 {
+        return false;
+    }
+    if !names::name_ok(abstract_of(r)) {
+        return false;
+    }
+    names::name_ok(transfer_of(r))
+}
+
+// The transfer name that goes with a result.
+fn transfer_ok(result: u8, x: &[u8]) -> bool
+    ensures { λ b. ⌜ b ≡ transferOk result (now (x .entry)) ⌝ }
+{
+    names::name_ok(x)
+}
+
+fn answer_record(r: &[u8]) -> bool
+    requires { ⌜ length (now r) ≡ 132 ⌝ }
+    ensures { λ b. ⌜ b ≡ answerRecord (now (r .entry)) ⌝ }
+{
+    if r[2] != 0 {
+        return false;
+    }
+    if !fields_ok(r) {
+        return false;
+    }
+    if r[0] % 2 != 1 {
+        return false;
+    }
+    if 4 < r[1] {
+        return false;
+    }
+    transfer_ok(r[1], transfer_of(r))
+}
+
+// Whether the record may stand in an answer, or in a proposal.
+fn record_ok(answer: bool, r: &[u8]) -> bool
+    requires { ⌜ length (now r) ≡ 132 ⌝ }
+    ensures { λ b. ⌜ b ≡ recordOk answer (now (r .entry)) ⌝ }
+{
+    if answer {
+        return answer_record(r);
+    }
+    proposal_record(r)
+}
+
+fn records_ok(answer: bool, s: &[u8]) -> bool
+    requires { ⌜ length (now s) % 132 ≡ 0 ⌝ }
+    ensures { λ b. ⌜ b ≡ all (recordOk answer) (recordsOf (now (s .entry))) ⌝ }
+{
+    let mut at = 0;
+    while at < s.len() {
+        if !record_ok(answer, record_at(s, at)) {
+            return false;
+        }
+        at += 132;
+    }
+    true
+}
+
+// Whether a proposal of these contexts may be sent.
+pub fn proposal_ok(s: &[u8]) -> bool
+    ensures { λ r. ⌜ r ≡ proposalOk (now (s .entry)) ⌝ }
+{
+    if s.len() == 0 {
+        return false;
+    }
+    if s.len() % 132 != 0 {
+        return false;
+    }
+    if !records_ok(false, s) {
+        return false;
+    }
+    runs_differ(s)
+}
+
+// Whether these answers may be sent.
+pub fn answers_ok(s: &[u8]) -> bool
+    ensures { λ r. ⌜ r ≡ answersOk (now (s .entry)) ⌝ }
+{
+    if s.len() == 0 {
+        return false;
+    }
+    if s.len() % 132 != 0 {
+        return false;
+    }
+    if !records_ok(true, s) {
+        return false;
+    }
+    ids_differ(s)
+}

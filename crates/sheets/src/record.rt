@@ -1,0 +1,131 @@
+// One record of the sheet: made, and looked at.
+ghost use mathlib.Core.Path.{_≡_};
+ghost use Prim.Native.Nat.{_+_, _≤_};
+ghost use lib.ListN.{length, take, drop};
+ghost use Rattle.laws.specs.Lists.{sameBytes};
+ghost use Rattle.sheets.specs.Sheet.{recordBytes, cap, abstractOf, transferOf};
+ghost use Rattle.sheets.specs.Record.{recordOf, recordAt, abstractAt, transferAt, goesOnAt};
+
+fn fill_record(id: u8, result: u8, a: &[u8], x: &[u8]) -> [u8; 132]
+    requires { ⌜ (length (now a) ≤ 64) × (length (now x) ≤ 64) ⌝ }
+    ensures { λ r. ⌜ r ≡ recordBytes id result (now (a .entry)) (now (x .entry)) ⌝ }
+{
+    let mut s = [0u8; 132];
+    s[0] = id;
+    s[1] = result;
+    s[2] = a.len() as u8;
+    s[3] = x.len() as u8;
+    octets::put(&mut s, 4, a);
+    octets::put(&mut s, 68, x);
+    s
+}
+
+// As much of a name as its field holds.
+fn cut(n: &[u8]) -> &[u8]
+    ensures { λ r. ⌜ (now r ≡ take 64 (now (n .entry))) × (length (now r) ≤ 64) ⌝ }
+{
+    if n.len() <= 64 {
+        return n;
+    }
+    &n[..64]
+}
+
+// A record with these names; of a name longer than its field the first 64 bytes.
+pub fn record_of(id: u8, result: u8, a: &[u8], x: &[u8]) -> [u8; 132]
+    ensures { λ r. ⌜ r ≡ recordOf id result (now (a .entry)) (now (x .entry)) ⌝ }
+{
+    fill_record(id, result, cut(a), cut(x))
+}
+
+// The record that starts at a place.
+pub(crate) fn record_at(s: &[u8], at: usize) -> &[u8]
+    requires { ⌜ at + 132 ≤ length (now s) ⌝ }
+    ensures { λ r. ⌜ (now r ≡ recordAt (now (s .entry)) at) × (length (now r) ≡ 132) ⌝ }
+{
+    let e = at + 132;
+    &s[at..e]
+}
+
+fn cap_of(n: u8) -> usize
+    ensures { λ r. ⌜ (r ≡ cap n) × (r ≤ 64) ⌝ }
+{
+    if n <= 64 {
+        return n as usize;
+    }
+    64
+}
+
+pub(crate) fn abstract_of(r: &[u8]) -> &[u8]
+    requires { ⌜ length (now r) ≡ 132 ⌝ }
+    ensures { λ x. ⌜ now x ≡ abstractOf (now (r .entry)) ⌝ }
+{
+    let e = 4 + cap_of(r[2]);
+    &r[4..e]
+}
+
+pub(crate) fn transfer_of(r: &[u8]) -> &[u8]
+    requires { ⌜ length (now r) ≡ 132 ⌝ }
+    ensures { λ x. ⌜ now x ≡ transferOf (now (r .entry)) ⌝ }
+{
+    let e = 68 + cap_of(r[3]);
+    &r[68..e]
+}
+
+// The abstract name of the record at a place; empty where no whole record starts there.
+pub fn abstract_at(s: &[u8], at: usize) -> &[u8]
+    ensures { λ r. ⌜ now r ≡ abstractAt (now (s .entry)) at ⌝ }
+{
+    if s.len() < 132 {
+        return &s[0..0];
+    }
+    if s.len() - 132 < at {
+        return &s[0..0];
+    }
+    abstract_of(record_at(s, at))
+}
+
+// The transfer name of the record at a place; empty where no whole record starts there.
+pub fn transfer_at(s: &[u8], at: usize) -> &[u8]
+    ensures { λ r. ⌜ now r ≡ transferAt (now (s .entry)) at ⌝ }
+{
+    if s.len() < 132 {
+        return &s[0..0];
+    }
+    if s.len() - 132 < at {
+        return &s[0..0];
+    }
+    transfer_of(record_at(s, at))
+}
+
+fn same_bytes(a: &[u8], b: &[u8]) -> bool
+    ensures { λ r. ⌜ r ≡ sameBytes (now (a .entry)) (now (b .entry)) ⌝ }
+{
+    if a.len() != b.len() {
+        return false;
+    }
+    let mut i = 0;
+    while i < a.len() {
+        if a[i] != b[i] {
+            return false;
+        }
+        i += 1;
+    }
+    true
+}
+
+// Whether the record behind the one at a place goes on its run.
+pub fn goes_on(s: &[u8], at: usize) -> bool
+    ensures { λ r. ⌜ r ≡ goesOnAt (now (s .entry)) at ⌝ }
+{
+    if s.len() < 264 {
+        return false;
+    }
+    if s.len() - 264 < at {
+        return false;
+    }
+    let e = at + 132;
+    if s[at] != s[e] {
+        return false;
+    }
+    same_bytes(abstract_at(s, at), abstract_at(s, e))
+}

@@ -1,0 +1,5 @@
+pub mod Or
+pub mod Grid
+pub mod Right
+pub mod Columns
+pub mod Agree

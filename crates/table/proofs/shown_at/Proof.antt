@@ -1,0 +1,30 @@
+-- `shown_at` meets its contract. The constant is the column of what is shown, by its computed test (Columns).
+-- Assumes nothing.
+use Rattle.table.specs.Actions.{actions}
+use Rattle.table.proofs.Columns.{marks, mark-column, column-none, column-past, column-at}
+use borrow.Author.Needs.{needs}
+use Rattle.table.proofs.shown_at.Statement.{statement}
+use Rattle.table.proofs.shown_at.Tie as tie
+
+returns : tie.Need-returns
+returns c = column-none mark-column _ (search needs)
+
+returns-2 : tie.Need-returns-2
+returns-2 c = column-past mark-column _ (search needs)
+
+wide-requires : tie.Need-wide-requires
+wide-requires c κs = search needs
+
+sub-at : tie.Need-sub-at
+sub-at c = search needs
+
+array-read-result : tie.Need-array-read-result
+array-read-result c = search needs
+
+returns-3 : tie.Need-returns-3
+unfolding marks actions
+returns-3 c = column-at mark-column _ _ (c .wide .ensures) (search needs) (search needs)
+
+pub shown-at-spec : {M : Type 1} → statement M
+shown-at-spec =
+    tie.close (tie.spec returns returns-2 wide-requires sub-at array-read-result returns-3)

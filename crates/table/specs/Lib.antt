@@ -1,0 +1,4 @@
+pub mod Names
+pub mod Actions
+pub mod Table
+pub mod Columns

@@ -1,0 +1,197 @@
+// Table 9-10 of PS3.8 and the actions of Tables 9-6 to 9-9, as numbers.
+ghost use mathlib.Core.Path.{_≡_};
+ghost use Prim.Native.Nat.{_+_, _-_, _*_, _≤_, _<_};
+ghost use mathlib.Core.Bool.{false};
+ghost use Rattle.table.specs.Actions.{nextOf, showsOf, artimOf};
+ghost use Rattle.table.specs.Table.{cellOf, isReceived};
+ghost use Rattle.table.specs.Columns.{timerOf, shownOf};
+
+// The actions' numbers (0a DT-2, 14 AR-10, 15 to 1c AA-1 to AA-8): a line to an event, 1 to 19, of states 1 to 13.
+const CELLS: [u8; 247] = *b"\
+    \x01\x00\x00\x00\x00\x00\x00\x00\x00\x00\x00\x00\x00\
+    \x00\x00\x00\x02\x00\x00\x00\x00\x00\x00\x00\x00\x00\
+    \x00\x15\x1c\x00\x03\x1c\x1c\x1c\x1c\x1c\x1c\x1c\x1a\
+    \x00\x15\x1c\x00\x04\x1c\x1c\x1c\x1c\x1c\x1c\x1c\x1a\
+    \x05\x00\x00\x00\x00\x00\x00\x00\x00\x00\x00\x00\x00\
+    \x00\x06\x1c\x00\x1c\x1c\x1c\x1c\x1c\x1c\x1c\x1c\x1b\
+    \x00\x00\x07\x00\x00\x00\x00\x00\x00\x00\x00\x00\x00\
+    \x00\x00\x08\x00\x00\x00\x00\x00\x00\x00\x00\x00\x00\
+    \x00\x00\x00\x00\x00\x09\x00\x11\x00\x00\x00\x00\x00\
+    \x00\x15\x1c\x00\x1c\x0a\x10\x1c\x1c\x1c\x1c\x1c\x1a\
+    \x00\x00\x00\x00\x00\x0b\x00\x00\x00\x00\x00\x00\x00\
+    \x00\x15\x1c\x00\x1c\x0c\x12\x1c\x1c\x1c\x1c\x1c\x1a\
+    \x00\x15\x1c\x00\x1c\x1c\x0d\x1c\x1c\x14\x0d\x1c\x1a\
+    \x00\x00\x00\x00\x00\x00\x00\x0e\x13\x00\x00\x0e\x00\
+    \x00\x00\x15\x16\x15\x15\x15\x15\x15\x15\x15\x15\x00\
+    \x00\x16\x17\x00\x17\x17\x17\x17\x17\x17\x17\x17\x16\
+    \x00\x19\x18\x18\x18\x18\x18\x18\x18\x18\x18\x18\x0f\
+    \x00\x16\x00\x00\x00\x00\x00\x00\x00\x00\x00\x00\x16\
+    \x00\x15\x1c\x00\x1c\x1c\x1c\x1c\x1c\x1c\x1c\x1c\x1b";
+
+// The next states of AE-1 to AE-8, of DT-1 and DT-2, of AR-1 to AR-10 and of AA-1 to AA-8; of AE-6 when it rejects, of AR-8 for the acceptor.
+const NEXTS: [u8; 28] = *b"\
+    \x04\x05\x06\x01\x02\x0d\x06\x0d\
+    \x06\x06\
+    \x07\x08\x01\x0d\x01\x07\x08\x0a\x0b\x0c\
+    \x0d\x01\x01\x01\x01\x0d\x0d\x0d";
+
+// For the same actions: 1 where the ARTIM timer is started, 2 where it is stopped.
+const TIMERS: [u8; 28] = *b"\
+    \x00\x00\x00\x00\x01\x01\x00\x01\
+    \x00\x00\
+    \x00\x00\x00\x01\x02\x00\x00\x00\x00\x00\
+    \x01\x02\x00\x00\x02\x00\x00\x01";
+
+// For the same actions: 1 where the PDU received is shown.
+const SHOWN: [u8; 28] = *b"\
+    \x00\x00\x01\x01\x00\x00\x00\x00\
+    \x00\x01\
+    \x00\x00\x00\x00\x00\x01\x00\x00\x00\x00\
+    \x00\x00\x01\x00\x00\x00\x00\x00";
+
+fn wide(x: u8) -> usize
+    ensures { λ r. ⌜ r ≡ x ⌝ }
+{
+    x as usize
+}
+
+// The place of a cell in the constant.
+fn place(event: u8, state: u8) -> usize
+    requires { ⌜ (1 ≤ event) × ((event < 20) × ((1 ≤ state) × (state < 14))) ⌝ }
+    ensures { λ r. ⌜ (r ≡ (event - 1) * 13 + (state - 1)) × (r < 247) ⌝ }
+{
+    (wide(event) - 1) * 13 + (wide(state) - 1)
+}
+
+// The action at an event in a state; 0 at a blank cell, and outside the table.
+pub fn cell(event: u8, state: u8) -> u8
+    ensures { λ r. ⌜ r ≡ cellOf event state ⌝ }
+{
+    if event < 1 {
+        return 0;
+    }
+    if 19 < event {
+        return 0;
+    }
+    if state < 1 {
+        return 0;
+    }
+    if 13 < state {
+        return 0;
+    }
+    let at = place(event, state);
+    CELLS[at]
+}
+
+fn fixed_next(action: u8) -> u8
+    ensures { λ r. ⌜ r ≡ nextOf action false false ⌝ }
+{
+    if action < 1 {
+        return 0;
+    }
+    if 28 < action {
+        return 0;
+    }
+    let at = wide(action) - 1;
+    NEXTS[at]
+}
+
+// The state after an action: `accepts` is asked at AE-6 and `requestor` at AR-8. 0 where there is no such action.
+pub fn next_state(action: u8, accepts: bool, requestor: bool) -> u8
+    ensures { λ r. ⌜ r ≡ nextOf action accepts requestor ⌝ }
+{
+    if action == 6 {
+        if accepts {
+            return 3;
+        }
+        return 13;
+    }
+    if action == 18 {
+        if requestor {
+            return 9;
+        }
+        return 10;
+    }
+    fixed_next(action)
+}
+
+fn timer_at(action: u8) -> u8
+    ensures { λ r. ⌜ r ≡ timerOf action ⌝ }
+{
+    if action < 1 {
+        return 0;
+    }
+    if 28 < action {
+        return 0;
+    }
+    let at = wide(action) - 1;
+    TIMERS[at]
+}
+
+// Whether the ARTIM timer runs after an action, where it did or did not before.
+pub fn artim_after(action: u8, accepts: bool, before: bool) -> bool
+    ensures { λ r. ⌜ r ≡ artimOf action accepts before ⌝ }
+{
+    if action == 6 {
+        return !accepts;
+    }
+    let timer = timer_at(action);
+    if timer == 1 {
+        return true;
+    }
+    if timer == 2 {
+        return false;
+    }
+    before
+}
+
+fn shown_at(action: u8) -> u8
+    ensures { λ r. ⌜ r ≡ shownOf action ⌝ }
+{
+    if action < 1 {
+        return 0;
+    }
+    if 28 < action {
+        return 0;
+    }
+    let at = wide(action) - 1;
+    SHOWN[at]
+}
+
+// Whether an action shows the PDU received.
+pub fn shows(action: u8, accepts: bool) -> bool
+    ensures { λ r. ⌜ r ≡ showsOf action accepts ⌝ }
+{
+    if action == 6 {
+        return accepts;
+    }
+    shown_at(action) == 1
+}
+
+// Whether bytes bring the event: the rows of PDUs.
+pub fn is_received(event: u8) -> bool
+    ensures { λ r. ⌜ r ≡ isReceived event ⌝ }
+{
+    if event == 3 {
+        return true;
+    }
+    if event == 4 {
+        return true;
+    }
+    if event == 6 {
+        return true;
+    }
+    if event == 10 {
+        return true;
+    }
+    if event == 12 {
+        return true;
+    }
+    if event == 13 {
+        return true;
+    }
+    if event == 16 {
+        return true;
+    }
+    event == 19
+}

@@ -1,0 +1,205 @@
+-- Laws of the ten-byte PDUs and of a P-DATA-TF.
+-- Assumes nothing.
+use Prim.Native.Nat.{ℕ, zero, suc, _+_, _-_, _≤_, _<_}
+use native.Mathlib.Omega.{arith}
+use mathlib.Core.Bool.{Bool, true, false, not, _&&_, cond}
+use mathlib.Core.List.{List, [], _∷_, _++_}
+use mathlib.Core.Path.{_≡_, refl, sym, ap, _∙_}
+use lib.ListN.{length, set, getD, List·getD-eq-default}
+use lib.Dec.{leb, eqb}
+use borrow.Author.Needs.{needs}
+use borrow.Author.Tests.{le-leb, lt-leb, eq-eqb, ne-eqb, not-true, not-false}
+use Rattle.octets.specs.Octets.{four}
+use Rattle.octets.specs.Put.{put, placed, placeBehind, Placed}
+use Rattle.octets.proofs.PutLaws.{put-none, placed-fits, behind-fits}
+use Rattle.judging.specs.Values.{rejectOk, abortOk}
+use Rattle.judging.specs.Data.{pdvsOk}
+use Rattle.writing.specs.Fields.{rejectOf, itemsOf, abortOf, rejectGood, itemsGood, abortGood}
+use Rattle.writing.specs.Ten.{tens, tenOf, rejectBytes, abortBytes}
+use Rattle.writing.specs.Wire.{pduBytes}
+use Rattle.writing.specs.Form.{Form, Wrote, rejectForm, mostOf, dataForm, releaseRqForm, releaseRpForm, abortForm}
+use Rattle.writing.specs.Inner.{Put, tenForm}
+use Rattle.writing.specs.declared.Sent.{Sent}
+use Rattle.writing.proofs.PutLaws.{next-put}
+use Rattle.writing.proofs.FormLaws.{wrote-bad, wrote-long, wrote-short, wrote-fine}
+
+-- ---- `ten_of`
+module _ (w : ℕ) where
+  pub ten-1 : w ≡ 1 → 0x07 ∷ 0 ∷ 0 ∷ 0 ∷ 0 ∷ 4 ∷ 0 ∷ 0 ∷ 0 ∷ 0 ∷ [] ≡ tenOf w
+  unfolding tenOf tens
+  ten-1 e = rw e
+
+  pub ten-2 : w ≡ 2 → 0x07 ∷ 0 ∷ 0 ∷ 0 ∷ 0 ∷ 4 ∷ 0 ∷ 0 ∷ 2 ∷ 1 ∷ [] ≡ tenOf w
+  unfolding tenOf tens
+  ten-2 e = rw e
+
+  pub ten-3 : w ≡ 3 → 0x07 ∷ 0 ∷ 0 ∷ 0 ∷ 0 ∷ 4 ∷ 0 ∷ 0 ∷ 2 ∷ 2 ∷ [] ≡ tenOf w
+  unfolding tenOf tens
+  ten-3 e = rw e
+
+  pub ten-4 : w ≡ 4 → 0x07 ∷ 0 ∷ 0 ∷ 0 ∷ 0 ∷ 4 ∷ 0 ∷ 0 ∷ 2 ∷ 6 ∷ [] ≡ tenOf w
+  unfolding tenOf tens
+  ten-4 e = rw e
+
+  pub ten-5 : w ≡ 5 → 0x03 ∷ 0 ∷ 0 ∷ 0 ∷ 0 ∷ 4 ∷ 0 ∷ 1 ∷ 2 ∷ 2 ∷ [] ≡ tenOf w
+  unfolding tenOf tens
+  ten-5 e = rw e
+
+  pub ten-6 : w ≡ 6 → 0x05 ∷ 0 ∷ 0 ∷ 0 ∷ 0 ∷ 4 ∷ 0 ∷ 0 ∷ 0 ∷ 0 ∷ [] ≡ tenOf w
+  unfolding tenOf tens
+  ten-6 e = rw e
+
+  pub ten-7 : 1 ≤ w → w ≤ 7 → (w ≡ 1 → ⊥) → (w ≡ 2 → ⊥) → (w ≡ 3 → ⊥) → (w ≡ 4 → ⊥) → (w ≡ 5 → ⊥) → (w ≡ 6 → ⊥) → 0x06 ∷ 0 ∷ 0 ∷ 0 ∷ 0 ∷ 4 ∷ 0 ∷ 0 ∷ 0 ∷ 0 ∷ [] ≡ tenOf w
+  unfolding tenOf tens
+  ten-7 h l a b c d e f = let x : w ≡ 7 = omega arith in rw x
+
+pub ruleset ten-laws = (needs, ten-1, ten-2, ten-3, ten-4, ten-5, ten-6, ten-7)
+
+-- ---- `ten_len`, `write_ten`
+pub ten-none : (w : ℕ) → w ≡ 0 → tenOf w ≡ []
+unfolding tenOf tens
+ten-none w e = rw e
+
+pub ten-past : (w : ℕ) → 7 < w → tenOf w ≡ []
+unfolding tenOf tens
+ten-past w h = List·getD-eq-default tens [] h
+
+-- each of the seven has ten bytes
+pub ten-long : (w : ℕ) → (w ≡ 0 → ⊥) → w ≤ 7 → length (tenOf w) ≡ 10
+unfolding tenOf tens
+ten-long zero n l = absurd (n refl)
+ten-long (suc zero) n l = refl
+ten-long (suc (suc zero)) n l = refl
+ten-long (suc (suc (suc zero))) n l = refl
+ten-long (suc (suc (suc (suc zero)))) n l = refl
+ten-long (suc (suc (suc (suc (suc zero))))) n l = refl
+ten-long (suc (suc (suc (suc (suc (suc zero)))))) n l = refl
+ten-long (suc (suc (suc (suc (suc (suc (suc zero))))))) n l = refl
+ten-long (suc (suc (suc (suc (suc (suc (suc (suc w)))))))) n l = absurd (omega arith)
+
+module _ (w : ℕ) where
+  pub len-none : w ≡ 0 → 0 ≡ length (tenOf w)
+  len-none e = sym (ap length (ten-none w e))
+
+  pub len-past : 7 < w → 0 ≡ length (tenOf w)
+  len-past h = sym (ap length (ten-past w h))
+
+  pub len-ten : (w ≡ 0 → ⊥) → w ≤ 7 → 10 ≡ length (tenOf w)
+  len-ten n l = sym (ten-long w n l)
+
+pub ruleset len-laws = (needs, len-none, len-past, len-ten)
+
+module _ (o : List ℕ) where
+  nothing-placed : Placed o 0 [] 0 o
+  nothing-placed = record { behind = sym (behind-fits o 0 [] (omega arith)); out = sym (placed-fits o 0 [] (omega arith) ∙ put-none o 0) }
+
+  pub placed-none : (w : ℕ) → w ≡ 0 → Placed o 0 (tenOf w) 0 o
+  placed-none w e = rw (ten-none w e) nothing-placed
+
+  pub placed-past : (w : ℕ) → 7 < w → Placed o 0 (tenOf w) 0 o
+  placed-past w h = rw (ten-past w h) nothing-placed
+
+  pub placed-ten : (w r : ℕ) (t o′ : List ℕ) → t ≡ tenOf w → Placed o 0 t r o′ → Placed o 0 (tenOf w) r o′
+  placed-ten w r t o′ e p = rw e at p
+
+pub ruleset placed-ten-laws = (needs, placed-none, placed-past, placed-ten)
+
+-- ---- `send`
+module _ (o t : List ℕ) (e : length t ≡ 10) where
+  pub send-short : length o < 10 → Wrote (tenForm t) o (record { refusal = 2; count = 0 }) o
+  unfolding tenForm
+  send-short h = wrote-short (tenForm t) o refl (omega arith) (omega arith)
+
+  pub send-fine : (o′ : List ℕ) (r : ℕ) → 10 ≤ length o → Put o 0 t r o′ → Wrote (tenForm t) o (record { refusal = 0; count = r }) o′
+  unfolding tenForm
+  send-fine o′ r h p = wrote-fine (tenForm t) o refl (omega arith) o′ r (omega arith) p
+
+pub ruleset send-laws = (needs, send-short, send-fine)
+
+-- ---- `write_reject`
+module _ (result source reason : ℕ) (o : List ℕ) (b : Bool) (e : b ≡ rejectOk result source reason) where
+  pub reject-refused : not b ≡ true → Wrote (rejectForm (rejectOf result source reason)) o (record { refusal = 4; count = 0 }) o
+  unfolding rejectForm rejectGood
+  reject-refused t = wrote-bad (rejectForm (rejectOf result source reason)) o (sym e ∙ not-true b t)
+
+  pub reject-wrote : (p o′ : List ℕ) (r : Sent) → not b ≡ false → p ≡ tenOf 5 → Wrote (tenForm (set (set (set p 7 result) 8 source) 9 reason)) o r o′ → Wrote (rejectForm (rejectOf result source reason)) o r o′
+  unfolding rejectForm rejectGood tenForm rejectBytes tenOf tens
+  reject-wrote p o′ r t q w = rw (← e, not-false b t) (rw q at w)
+
+pub ruleset reject-laws = (needs, reject-refused, reject-wrote)
+
+-- ---- `write_release_request`, `write_release_response`
+pub release-rq : (o p o′ : List ℕ) (r : Sent) → p ≡ tenOf 6 → Wrote (tenForm p) o r o′ → Wrote releaseRqForm o r o′
+unfolding tenForm releaseRqForm
+release-rq o p o′ r q w = rw q at w
+
+pub release-rp : (o p o′ : List ℕ) (r : Sent) → p ≡ tenOf 7 → Wrote (tenForm p) o r o′ → Wrote releaseRpForm o r o′
+unfolding tenForm releaseRpForm
+release-rp o p o′ r q w = rw q at w
+
+pub ruleset release-laws = (needs, release-rq, release-rp)
+
+-- ---- `abort_good`, `write_abort`
+pub abort-zero : (source reason : ℕ) → source ≡ 0 → eqb reason 0 ≡ abortGood (abortOf source reason)
+unfolding abortGood
+abort-zero source reason e = simp (eq-eqb source 0 e)
+
+pub abort-other : (source reason : ℕ) (b : Bool) → (source ≡ 0 → ⊥) → b ≡ abortOk source reason → b ≡ abortGood (abortOf source reason)
+unfolding abortGood
+abort-other source reason b n e = e ∙ simp (ne-eqb source 0 n)
+
+pub ruleset abort-good-laws = (needs, abort-zero, abort-other)
+
+module _ (source reason : ℕ) (o : List ℕ) (b : Bool) (e : b ≡ abortGood (abortOf source reason)) where
+  pub abort-refused : not b ≡ true → Wrote (abortForm (abortOf source reason)) o (record { refusal = 4; count = 0 }) o
+  unfolding abortForm
+  abort-refused t = wrote-bad (abortForm (abortOf source reason)) o (sym e ∙ not-true b t)
+
+  pub abort-wrote : (p o′ : List ℕ) (r : Sent) → not b ≡ false → p ≡ tenOf 1 → Wrote (tenForm (set (set p 8 source) 9 reason)) o r o′ → Wrote (abortForm (abortOf source reason)) o r o′
+  unfolding abortForm tenForm abortBytes tenOf tens
+  abort-wrote p o′ r t q w = rw (← e, not-false b t) (rw q at w)
+
+pub ruleset abort-laws = (needs, abort-refused, abort-wrote)
+
+-- ---- `most_of`, `write_data`
+module _ (peer : ℕ) where
+  pub most-none : peer ≡ 0 → 16384 ≡ mostOf peer
+  unfolding mostOf
+  most-none e = simp (eq-eqb peer 0 e)
+
+  pub most-peer : (peer ≡ 0 → ⊥) → peer ≤ 16384 → peer ≡ mostOf peer
+  unfolding mostOf
+  most-peer n h = simp (ne-eqb peer 0 n, le-leb peer 16384 h)
+
+  pub most-over : (peer ≡ 0 → ⊥) → 16384 < peer → 16384 ≡ mostOf peer
+  unfolding mostOf
+  most-over n h = simp (ne-eqb peer 0 n, lt-leb peer 16384 h)
+
+pub ruleset most-laws = (needs, most-none, most-peer, most-over)
+
+module _ (peer : ℕ) (s o : List ℕ) (b : Bool) (e : b ≡ pdvsOk 3 s) where
+  pub data-refused : not b ≡ true → Wrote (dataForm peer (itemsOf s)) o (record { refusal = 4; count = 0 }) o
+  unfolding dataForm itemsGood
+  data-refused t = wrote-bad (dataForm peer (itemsOf s)) o (sym e ∙ not-true b t)
+
+  module _ (m : ℕ) (t : not b ≡ false) (q : m ≡ mostOf peer) where
+    data-good : pdvsOk 3 s ≡ true
+    data-good = sym e ∙ not-false b t
+
+    pub data-over : m < length s → Wrote (dataForm peer (itemsOf s)) o (record { refusal = 5; count = 0 }) o
+    unfolding dataForm itemsGood pduBytes
+    data-over h = wrote-long (dataForm peer (itemsOf s)) o data-good (omega arith)
+
+    module _ (h : length s ≤ m) where
+      pub data-short : length o < length s + 6 → Wrote (dataForm peer (itemsOf s)) o (record { refusal = 2; count = 0 }) o
+      unfolding dataForm itemsGood pduBytes
+      data-short l = wrote-short (dataForm peer (itemsOf s)) o data-good (omega arith) (omega arith)
+
+      pub data-fine : (x o₁ o₂ : List ℕ) (i r : ℕ) → length s + 6 ≤ length o → x ≡ 0x04 ∷ 0 ∷ four (length s) → Put o 0 x i o₁ → Put o₁ i s r o₂ → Wrote (dataForm peer (itemsOf s)) o (record { refusal = 0; count = r }) o₂
+      unfolding dataForm itemsGood pduBytes
+      data-fine x o₁ o₂ i r l k p w =
+          let n : length x ≡ 6 = ap length k in
+          let all : Put o 0 (x ++ s) r o₂ = next-put o x s o₁ 0 i p (omega arith) o₂ r w in
+          wrote-fine (dataForm peer (itemsOf s)) o data-good (omega arith) o₂ r (omega arith) (rw k at all)
+
+pub ruleset data-laws = (needs, data-refused, data-over, data-short, data-fine)

@@ -1,0 +1,67 @@
+-- The one form of each PDU that is sent, and what a call that writes it answers and leaves: "An answered call writes its sent bytes at the start of the output and changes
+-- no byte beyond them." "Every refusal returns its number, zero counts ..; .. output stay[s] unchanged."
+use Prim.Native.Nat.{ℕ, _-_}
+use mathlib.Core.Path.{_≡_}
+use mathlib.Core.Bool.{Bool, true, cond}
+use mathlib.Core.List.{List, []}
+use lib.ListN.{length}
+use lib.Dec.{leb, eqb}
+use Rattle.octets.specs.Put.{front}
+use Rattle.writing.specs.Fields.{RqFields, AcFields, Reject, Items, Abort, rqGood, acGood, rejectGood, itemsGood, abortGood}
+use Rattle.writing.specs.Ten.{tenOf, RELEASE-RQ, RELEASE-RP, rejectBytes, abortBytes}
+use Rattle.writing.specs.Wire.{pduBytes, frameBytes, rqFrame, acFrame}
+use Rattle.writing.specs.declared.Sent.{Sent}
+
+-- what some contents want sent: whether they are good, the greatest PDU-length that may be sent, the bytes
+pub record Form : Type 0 where
+  pub good : Bool
+  pub most : ℕ
+  pub pdu : List ℕ
+
+-- "4: bad contents ..; 5: PDU-length to be sent above 16,384, or a P-DATA-TF's above a non-zero peer maximum; 2: output too short. .. tested in this order"; 0: none. "Output room is the PDU-length plus 6."
+unfoldable pub refusalOf : Form → ℕ → ℕ
+refusalOf f room =
+    cond (f .good)
+    (cond (leb (length (f .pdu) - 6) (f .most))
+    (cond (leb (length (f .pdu)) room) 0 2)
+    5)
+    4
+
+-- the bytes sent: none where the call is refused
+unfoldable pub sentBytes : Form → ℕ → List ℕ
+sentBytes f room = cond (eqb (refusalOf f room) 0) (f .pdu) []
+
+unfoldable pub sentOf : Form → ℕ → Sent
+sentOf f room = record { refusal = refusalOf f room; count = length (sentBytes f room) }
+
+-- a call wrote a form to the output o, which is now o′, and answered r
+pub record Wrote (f : Form) (o : List ℕ) (r : Sent) (o′ : List ℕ) : Type 0 where
+  pub answer : r ≡ sentOf f (length o)
+  pub out : o′ ≡ front o (sentBytes f (length o))
+
+-- ---- the seven
+
+unfoldable pub rqForm : RqFields → Form
+rqForm f = record { good = rqGood f; most = 16384; pdu = frameBytes (rqFrame f) }
+
+unfoldable pub acForm : AcFields → Form
+acForm f = record { good = acGood f; most = 16384; pdu = frameBytes (acFrame f) }
+
+unfoldable pub rejectForm : Reject → Form
+rejectForm f = record { good = rejectGood f; most = 16384; pdu = rejectBytes (f .result) (f .source) (f .reason) }
+
+-- 16,384, or a lower non-zero peer maximum
+unfoldable pub mostOf : ℕ → ℕ
+mostOf peer = cond (eqb peer 0) 16384 (cond (leb peer 16384) peer 16384)
+
+unfoldable pub dataForm : ℕ → Items → Form
+dataForm peer f = record { good = itemsGood f; most = mostOf peer; pdu = pduBytes 0x04 (f .items) }
+
+unfoldable pub releaseRqForm : Form
+releaseRqForm = record { good = true; most = 16384; pdu = tenOf RELEASE-RQ }
+
+unfoldable pub releaseRpForm : Form
+releaseRpForm = record { good = true; most = 16384; pdu = tenOf RELEASE-RP }
+
+unfoldable pub abortForm : Abort → Form
+abortForm f = record { good = abortGood f; most = 16384; pdu = abortBytes (f .source) (f .reason) }

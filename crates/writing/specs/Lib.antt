@@ -1,0 +1,5 @@
+pub mod Fields
+pub mod Ten
+pub mod Wire
+pub mod Form
+pub mod Inner

@@ -1,0 +1,72 @@
+-- The bytes of an A-ASSOCIATE-RQ and -AC: "We send version 1, maximum 16,384, items in the order above, no skipped types, reserved bytes zero except the AC's fields
+-- that Table 9-17 wants as received".
+use Prim.Native.Nat.{ℕ}
+use mathlib.Core.List.{List, [], _∷_, _++_, map}
+use lib.ListN.{length, replicate}
+use Rattle.octets.specs.Octets.{four}
+use Rattle.items.specs.Wire.{itemBytes, itemsBytes}
+use Rattle.sheets.specs.Contexts.{Context, Answered}
+use Rattle.sheets.specs.Sheet.{contextsIn, answersIn}
+use Rattle.writing.specs.Fields.{RqFields, AcFields}
+
+-- a PDU: type, reserved byte, the PDU-length in four bytes, and what it counts
+unfoldable pub pduBytes : ℕ → List ℕ → List ℕ
+pduBytes kind body = kind ∷ 0 ∷ (four (length body) ++ body)
+
+-- what differs between an RQ and an AC: the type, the 64 bytes behind the version, the application name, the contexts' item type and bodies, the sub-items of the user information
+pub record Frame : Type 0 where
+  pub kind : ℕ
+  pub middle : List ℕ
+  pub application : List ℕ
+  pub context : ℕ
+  pub bodies : List (List ℕ)
+  pub user : List (List ℕ)
+
+-- one behind the other
+abbrev pub joined : List (List ℕ) → List ℕ
+joined [] = []
+joined (x ∷ xs) = x ++ joined xs
+
+-- one 10H, the contexts, one 50H
+unfoldable pub frameItems : Frame → List ℕ
+frameItems f = itemBytes 0x10 (f .application) ++ (itemsBytes (f .context) (f .bodies) ++ itemBytes 0x50 (joined (f .user)))
+
+-- version 1, two reserved bytes, the 64 bytes, the items
+unfoldable pub frameBytes : Frame → List ℕ
+frameBytes f = pduBytes (f .kind) (0 ∷ 1 ∷ 0 ∷ 0 ∷ (f .middle ++ frameItems f))
+
+-- the sub-items of a 50H: our maximum length
+unfoldable pub ourUser : List (List ℕ)
+ourUser = itemBytes 0x51 (four 16384) ∷ []
+
+-- 20H: ID, three reserved bytes, the 30H, the 40Hs
+unfoldable pub contextBody : Context → List ℕ
+contextBody c = c .id ∷ 0 ∷ 0 ∷ 0 ∷ (itemBytes 0x30 (c .abstr) ++ itemsBytes 0x40 (c .transfers))
+
+-- 21H: ID, reserved, result, reserved, the 40H
+unfoldable pub answerBody : Answered → List ℕ
+answerBody c = c .id ∷ 0 ∷ c .result ∷ 0 ∷ itemBytes 0x40 (c .transfer)
+
+-- an RQ: the titles, and 32 reserved bytes
+unfoldable pub rqFrame : RqFields → Frame
+rqFrame f =
+    record {
+      kind = 0x01;
+      middle = f .called ++ (f .calling ++ replicate 32 0);
+      application = f .application;
+      context = 0x20;
+      bodies = map contextBody (contextsIn (f .sheet));
+      user = ourUser;
+    }
+
+-- an AC: "with the accept response the host gives the RQ's PDU bytes 11 to 74 .. and those fields are copied"
+unfoldable pub acFrame : AcFields → Frame
+acFrame f =
+    record {
+      kind = 0x02;
+      middle = f .echoed;
+      application = f .application;
+      context = 0x21;
+      bodies = map answerBody (answersIn (f .sheet));
+      user = ourUser;
+    }

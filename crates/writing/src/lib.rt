@@ -1,0 +1,22 @@
+// Writes the seven PDUs, each in its one form, into a lent output.
+mod associate;
+mod contexts;
+mod frame;
+mod pieces;
+mod ten;
+
+pub use associate::write_accept;
+pub use associate::write_request;
+pub use ten::ten_len;
+pub use ten::write_abort;
+pub use ten::write_data;
+pub use ten::write_reject;
+pub use ten::write_release_request;
+pub use ten::write_release_response;
+pub use ten::write_ten;
+
+// What a writing call answers: 0 or the paper's refusal number; the bytes sent.
+pub struct Sent {
+    pub refusal: u8,
+    pub count: usize,
+}

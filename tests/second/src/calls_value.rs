@@ -1,0 +1,240 @@
+//! Reading and writing calls for the generator, with lent sheets and outputs of every size.
+
+use crate::contents::title_of_other_length;
+use crate::fields::{read_ac, read_rq};
+use crate::generate::{ac_words, hex, rq_words, Generator};
+use crate::make::{bad_name, bad_title, good_data, good_name, good_title, name_of_length};
+use crate::pdus::some_pdu;
+use crate::write;
+
+impl Generator {
+    pub fn call_k(&mut self) {
+        let bytes = if self.random.chance(25) {
+            let turn = self.random.pick(&[1, 2, 3, 4, 5, 6, 7, 8, 9, 11, 11]);
+            self.pdu_of_turn(turn)
+        } else {
+            let kind = self.any_kind();
+            some_pdu(kind, &mut self.random, &mut self.marks)
+        };
+        self.say(format!("K {}", hex(&bytes)));
+    }
+
+    pub fn call_q(&mut self) {
+        let bytes = self.pdu_mostly(1);
+        let needed = read_rq(&bytes, &vec![0; 66_000]).map_or(132, |(fields, _)| 132 * fields.records);
+        let room = self.sheet_room(needed);
+        self.say(format!("Q {} {}", hex(&bytes), room));
+    }
+
+    pub fn call_a(&mut self) {
+        let bytes = self.pdu_mostly(2);
+        let needed = read_ac(&bytes, &vec![0; 66_000]).map_or(132, |(fields, _)| 132 * fields.records);
+        let room = self.sheet_room(needed);
+        self.say(format!("A {} {}", hex(&bytes), room));
+    }
+
+    /// A PDU of the kind asked for, seldom of another.
+    pub fn pdu_mostly(&mut self, kind: u8) -> Vec<u8> {
+        let kind = if self.random.chance(8) { self.any_kind() } else { kind };
+        if self.random.chance(40) {
+            let without_bit = kind == 1 && self.random.chance(25);
+            return self.pdu_of_turn(if without_bit { 11 } else { kind.min(9) });
+        }
+        some_pdu(kind, &mut self.random, &mut self.marks)
+    }
+
+    pub fn sheet_room(&mut self, needed: usize) -> usize {
+        let below = needed.saturating_sub(1);
+        let one_less = needed.saturating_sub(132);
+        self.random.pick(&[needed, needed, needed, below, one_less, 0, 131, needed + 1, needed + 200]).min(66_000)
+    }
+
+    pub fn call_j(&mut self) {
+        let bytes = if self.random.chance(70) {
+            let (result, source, reason) = self.next_reject();
+            write::pdu(3, &[self.random.byte(), result, source, reason])
+        } else {
+            self.pdu_mostly(3)
+        };
+        self.say(format!("J {}", hex(&bytes)));
+    }
+
+    pub fn call_b(&mut self) {
+        let bytes = if self.random.chance(70) {
+            let (source, reason) = self.aborts.take();
+            write::pdu(7, &[self.random.byte(), self.random.byte(), source, reason])
+        } else {
+            self.pdu_mostly(7)
+        };
+        self.say(format!("B {}", hex(&bytes)));
+    }
+
+    pub fn call_d(&mut self) {
+        if self.random.chance(30) {
+            self.call_d_with_control_bits();
+            return;
+        }
+        let bytes = self.pdu_mostly(4);
+        let number = self.random.pick(&[0, 0, 0, 1, 1, 2, 3, 4, 12, 255, 65_536, 4_294_967_296, u64::MAX]);
+        self.say(format!("D {} {}", hex(&bytes), number));
+    }
+
+    /// A PDV that is there, its control byte of any value.
+    pub fn call_d_with_control_bits(&mut self) {
+        let mut plan = good_data(&mut self.random);
+        for pdv in plan.pdvs.iter_mut() {
+            pdv.control = self.random.byte();
+        }
+        let number = self.random.below(plan.pdvs.len());
+        self.say(format!("D {} {}", hex(&plan.bytes()), number));
+    }
+
+    pub fn call_t(&mut self) {
+        let count = self.random.pick(&[0, 1, 1, 2, 3, 8, 8, 9, 9]);
+        let mut own: Vec<Vec<u8>> = (0..count).map(|_| good_title(&mut self.random)).collect();
+        if count > 0 && self.random.chance(20) {
+            let place = self.random.below(count);
+            own[place] = bad_title(&mut self.random);
+        }
+        let mut list = own.concat();
+        match self.random.below(12) {
+            0 => list.push(b'A'),
+            1 => {
+                list.pop();
+            }
+            _ => {}
+        }
+        let sought = self.sought_title(&own);
+        self.say(format!("T {} {}", hex(&list), hex(&sought)));
+    }
+
+    pub fn sought_title(&mut self, own: &[Vec<u8>]) -> Vec<u8> {
+        match self.random.below(8) {
+            0 => title_of_other_length(&mut self.random),
+            1 => bad_title(&mut self.random),
+            2 => good_title(&mut self.random),
+            _ if own.is_empty() => good_title(&mut self.random),
+            3 => {
+                let mut title = self.random.pick(own);
+                let place = self.random.below(16);
+                title[place] ^= 0x20;
+                title
+            }
+            4 => {
+                let mut title = self.random.pick(own);
+                title.rotate_right(1);
+                title
+            }
+            _ => self.random.pick(own),
+        }
+    }
+
+    pub fn call_n(&mut self) {
+        let name = match self.random.below(4) {
+            0 => good_name(&mut self.random),
+            1 => {
+                let length = self.random.pick(&[1, 2, 3, 63, 64, 65, 66]);
+                name_of_length(length, &mut self.random)
+            }
+            2 => {
+                let length = self.random.between(1, 6);
+                (0..length).map(|_| self.random.pick(b"0012.")).collect()
+            }
+            _ => bad_name(&mut self.random),
+        };
+        self.say(format!("N {}", hex(&name)));
+    }
+
+    pub fn call_v(&mut self) {
+        let title = match self.random.below(5) {
+            0 => good_title(&mut self.random),
+            4 => {
+                let mut title = b"ABCDEFGHIJKLMNOP".to_vec();
+                title[self.random.below(16)] = self.random.pick(&[0x1f, 0x20, 0x5b, 0x5c, 0x5d, 0x7e, 0x7f, 0x80]);
+                title
+            }
+            1 => title_of_other_length(&mut self.random),
+            2 => {
+                let mut title = vec![0x20; 16];
+                title[self.random.below(16)] = self.random.byte();
+                title
+            }
+            _ => bad_title(&mut self.random),
+        };
+        self.say(format!("V {}", hex(&title)));
+    }
+
+    pub fn call_e(&mut self) {
+        let one = self.loose_title();
+        let other = match self.random.below(6) {
+            0 => self.loose_title(),
+            4 => one.to_ascii_lowercase(),
+            5 => [&one[..], &[0]].concat(),
+            1 => {
+                let mut title = one.clone();
+                title.insert(self.random.below(title.len() + 1), 0x20);
+                title
+            }
+            2 => {
+                let mut title = one.clone();
+                let place = self.random.below(title.len() + 1);
+                title.insert(place, self.random.pick(&[0, 0x09, b'A', 0x20]));
+                title
+            }
+            _ => {
+                let before = self.random.below(4);
+                let mut title = vec![0x20; before];
+                title.extend_from_slice(&one);
+                title
+            }
+        };
+        self.say(format!("E {} {}", hex(&one), hex(&other)));
+    }
+
+    /// A short title of any length over few bytes.
+    pub fn loose_title(&mut self) -> Vec<u8> {
+        if self.random.chance(30) {
+            return good_title(&mut self.random);
+        }
+        let length = self.random.below(7);
+        (0..length).map(|_| self.random.pick(b"  AAab\0")).collect()
+    }
+
+    pub fn write_rq(&mut self) {
+        let c = self.some_rq_contents();
+        let needed = write::rq(&c.called, &c.calling, &c.application, &c.sheet).map_or(161, |bytes| bytes.len());
+        let room = self.room(needed);
+        self.say(format!("1 {} {}", rq_words(&c), room));
+    }
+
+    pub fn write_ac(&mut self) {
+        let c = self.some_ac_contents();
+        let needed = write::ac(&c.echoed, &c.application, &c.sheet).map_or(140, |bytes| bytes.len());
+        let room = self.room(needed);
+        self.say(format!("2 {} {}", ac_words(&c), room));
+    }
+
+    pub fn write_rj(&mut self) {
+        let (result, source, reason) = self.next_reject();
+        let room = self.room(10);
+        self.say(format!("3 {} {} {} {}", result, source, reason, room));
+    }
+
+    pub fn write_data(&mut self) {
+        let items = self.some_items();
+        let room = self.room(items.len() + 6);
+        self.say(format!("4 {} {}", hex(&items), room));
+    }
+
+    pub fn write_release(&mut self) {
+        let kind = self.random.pick(&[5, 6]);
+        let room = self.room(10);
+        self.say(format!("{} {}", kind, room));
+    }
+
+    pub fn write_abort(&mut self) {
+        let (source, reason) = self.aborts.take();
+        let room = self.room(10);
+        self.say(format!("7 {} {} {}", source, reason, room));
+    }
+}

@@ -1,0 +1,356 @@
+//! Contents of local requests for the generator: sheets, titles and names, good and twisted.
+
+use crate::fields::sheet_record;
+use crate::make::{bad_name, bad_title, good_name, good_title, name_of_length};
+use crate::marks::Marks;
+use crate::random::Random;
+use crate::twists::Expect::{Inside, Outside};
+use crate::twists::{inside, outside, seldom_used, Expect, Twist};
+
+/// A sheet in records, with bytes behind them.
+#[derive(Clone, Debug)]
+pub struct Sheet {
+    pub proposal: bool,
+    pub records: Vec<Vec<u8>>,
+    pub tail: Vec<u8>,
+}
+
+impl Sheet {
+    pub fn bytes(&self) -> Vec<u8> {
+        let mut bytes = self.records.concat();
+        bytes.extend_from_slice(&self.tail);
+        bytes
+    }
+
+    /// Edits one record, often the last.
+    fn with_record(&mut self, random: &mut Random, edit: impl FnOnce(&mut Vec<u8>, &mut Random)) {
+        if !self.records.is_empty() {
+            let last = self.records.len() - 1;
+            let place = if random.chance(50) { last } else { random.below(last + 1) };
+            edit(&mut self.records[place], random);
+        }
+    }
+
+    fn last(&self) -> Vec<u8> {
+        self.records.last().cloned().unwrap_or_else(|| sheet_record(1, 0, b"1.2", b"1.2"))
+    }
+
+    fn free_id(&self, random: &mut Random) -> u8 {
+        let used: Vec<u8> = self.records.iter().map(|record| record[0]).collect();
+        let free: Vec<u8> = (0..128).map(|i| 2 * i + 1).filter(|id| !used.contains(id)).collect();
+        random.pick(&free)
+    }
+}
+
+/// Puts a name of any length up to 64 in a record's abstract or transfer field.
+fn set_name(record: &mut [u8], transfer: bool, name: &[u8]) {
+    let (length_at, at) = if transfer { (3, 68) } else { (2, 4) };
+    record[length_at] = name.len() as u8;
+    for place in 0..64 {
+        record[at + place] = name.get(place).copied().unwrap_or(0);
+    }
+}
+
+/// A bad name that fits a field of 64 bytes, not empty.
+fn short_bad_name(random: &mut Random) -> Vec<u8> {
+    loop {
+        let name = bad_name(random);
+        if (1..=64).contains(&name.len()) {
+            return name;
+        }
+    }
+}
+
+/// A record of a good sheet.
+fn good_record(proposal: bool, id: u8, random: &mut Random) -> Vec<u8> {
+    let transfer = good_name(random);
+    if proposal {
+        sheet_record(id, 0, &good_name(random), &transfer)
+    } else {
+        sheet_record(id, random.pick(&[0, 0, 1, 2, 3, 4]), b"", &transfer)
+    }
+}
+
+/// A good sheet of few records.
+pub fn good_sheet(proposal: bool, random: &mut Random) -> Sheet {
+    let mut sheet = Sheet { proposal, records: Vec::new(), tail: Vec::new() };
+    for _ in 0..random.pick(&[1, 1, 1, 1, 2, 3]) {
+        let id = sheet.free_id(random);
+        sheet.records.push(good_record(proposal, id, random));
+    }
+    sheet
+}
+
+/// Twists of proposals and answers alike.
+pub static SHEET: &[Twist<Sheet>] = &[
+    inside("sheet: one more context", |s, r| {
+        let id = s.free_id(r);
+        s.records.push(good_record(s.proposal, id, r));
+    }),
+    inside("sheet: transfer name of 64 bytes", |s, r| {
+        s.with_record(r, |record, r| set_name(record, true, &name_of_length(64, r)));
+    }),
+    inside("sheet: transfer name of 1 byte", |s, r| {
+        s.with_record(r, |record, _| set_name(record, true, b"0"));
+    }),
+    outside("sheet: no record", |s, _| s.records.clear()),
+    outside("sheet: last record cut", |s, r| {
+        let mut last = s.last();
+        s.records.pop();
+        last.truncate(r.pick(&[1, 4, 68, 130, 131]));
+        s.tail = last;
+    }),
+    outside("sheet: bytes behind", |s, r| {
+        let length = r.pick(&[1, 2, 66, 131]);
+        s.tail = vec![0; length];
+    }),
+    outside("sheet: even ID", |s, r| {
+        s.with_record(r, |record, r| record[0] = r.pick(&[0, 2, 128, 254]));
+    }),
+    outside("sheet: transfer length 0", |s, r| {
+        s.with_record(r, |record, _| set_name(record, true, b""));
+    }),
+    outside("sheet: transfer length above 64", |s, r| {
+        s.with_record(r, |record, r| {
+            set_name(record, true, &name_of_length(64, r));
+            record[3] = r.pick(&[65, 66, 128, 255]);
+        });
+    }),
+    outside("sheet: transfer length one less", |s, r| {
+        s.with_record(r, |record, _| record[3] -= 1);
+    }),
+    outside("sheet: transfer length one more", |s, r| {
+        s.with_record(r, |record, _| {
+            set_name(record, true, b"1.2");
+            record[3] += 1;
+        });
+    }),
+    outside("sheet: unused transfer byte not zero", |s, r| {
+        s.with_record(r, |record, r| {
+            set_name(record, true, b"1.2");
+            let place = r.pick(&[3, 4, 40, 62, 63]);
+            record[68 + place] = r.pick(&[1, 0x20, 0x31, 0xff]);
+        });
+    }),
+    outside("sheet: bad transfer name", |s, r| {
+        s.with_record(r, |record, r| set_name(record, true, &short_bad_name(r)));
+    }),
+];
+
+/// Twists of a proposal.
+pub static PROPOSAL: &[Twist<Sheet>] = &[
+    inside("proposal: a run of several transfers", |s, r| {
+        for _ in 0..r.between(1, 3) {
+            let mut record = s.last();
+            set_name(&mut record, true, &good_name(r));
+            s.records.push(record);
+        }
+    }),
+    inside("proposal: equal transfer names", |s, _| {
+        let record = s.last();
+        s.records.push(record);
+    }),
+    inside("proposal: equal abstract names, other ID", |s, r| {
+        let mut record = s.last();
+        record[0] = s.free_id(r);
+        s.records.push(record);
+    }),
+    inside("proposal: abstract name of 64 bytes", |s, r| {
+        s.with_record(r, |record, r| set_name(record, false, &name_of_length(64, r)));
+    }),
+    outside("proposal: result not 0", |s, r| {
+        s.with_record(r, |record, r| record[1] = r.pick(&[1, 4, 5, 255]));
+    }),
+    outside("proposal: abstract length 0", |s, r| {
+        s.with_record(r, |record, _| set_name(record, false, b""));
+    }),
+    outside("proposal: abstract length above 64", |s, r| {
+        s.with_record(r, |record, r| {
+            set_name(record, false, &name_of_length(64, r));
+            record[2] = r.pick(&[65, 66, 128, 255]);
+        });
+    }),
+    outside("proposal: abstract length one less", |s, r| {
+        s.with_record(r, |record, _| record[2] -= 1);
+    }),
+    outside("proposal: unused abstract byte not zero", |s, r| {
+        s.with_record(r, |record, r| {
+            set_name(record, false, b"1.2");
+            let place = r.pick(&[3, 4, 40, 62, 63]);
+            record[4 + place] = r.pick(&[1, 0x20, 0x31, 0xff]);
+        });
+    }),
+    outside("proposal: bad abstract name", |s, r| {
+        s.with_record(r, |record, r| set_name(record, false, &short_bad_name(r)));
+    }),
+    outside("proposal: equal ID, other abstract name", |s, _| {
+        let mut record = s.last();
+        set_name(&mut record, false, b"7.7.7.7");
+        s.records.push(record);
+    }),
+    outside("proposal: equal ID, abstract name one longer", |s, _| {
+        let mut record = s.last();
+        set_name(&mut record, false, b"1.2");
+        s.records.pop();
+        s.records.push(record.clone());
+        set_name(&mut record, false, b"1.23");
+        s.records.push(record);
+    }),
+    outside("proposal: an ID starts a second run", |s, r| {
+        let first = s.records[0].clone();
+        let mut between = s.last();
+        between[0] = s.free_id(r);
+        s.records.push(between);
+        s.records.push(first);
+    }),
+];
+
+/// Twists of an answer.
+pub static ANSWER: &[Twist<Sheet>] = &[
+    inside("answer: result 0 to 4", |s, r| {
+        s.with_record(r, |record, r| record[1] = r.below(5) as u8);
+    }),
+    outside("answer: result above 4", |s, r| {
+        s.with_record(r, |record, r| record[1] = r.pick(&[5, 6, 255]));
+    }),
+    outside("answer: an abstract name", |s, r| {
+        s.with_record(r, |record, r| set_name(record, false, &good_name(r)));
+    }),
+    outside("answer: abstract length not 0, field zero", |s, r| {
+        s.with_record(r, |record, r| record[2] = r.pick(&[1, 64, 65, 255]));
+    }),
+    outside("answer: abstract length 0, field not zero", |s, r| {
+        s.with_record(r, |record, r| record[4 + r.pick(&[0, 1, 63])] = r.pick(&[1, 0x31, 0xff]));
+    }),
+    outside("answer: equal IDs side by side", |s, _| {
+        let record = s.last();
+        s.records.push(record);
+    }),
+    outside("answer: equal IDs apart", |s, r| {
+        let first = s.records[0].clone();
+        let mut between = s.last();
+        between[0] = s.free_id(r);
+        s.records.push(between);
+        s.records.push(first);
+    }),
+];
+
+fn twist_sheet(sheet: &mut Sheet, want: Expect, random: &mut Random, marks: &mut Marks) {
+    let own = if sheet.proposal { PROPOSAL } else { ANSWER };
+    let fitting: Vec<&Twist<Sheet>> = SHEET.iter().chain(own.iter()).filter(|t| t.expect == want).collect();
+    if let Some(chosen) = seldom_used(&fitting, "twist", random, marks) {
+        (chosen.edit)(sheet, random);
+    }
+}
+
+/// A sheet near the rules; good ones when `good`.
+pub fn some_sheet(proposal: bool, good: bool, random: &mut Random, marks: &mut Marks) -> Vec<u8> {
+    let mut sheet = good_sheet(proposal, random);
+    if random.chance(if good { 30 } else { 50 }) {
+        twist_sheet(&mut sheet, Inside, random, marks);
+    }
+    if !good {
+        twist_sheet(&mut sheet, Outside, random, marks);
+    }
+    sheet.bytes()
+}
+
+/// What comes with a transport confirmation.
+#[derive(Clone, Debug)]
+pub struct RqContents {
+    pub called: Vec<u8>,
+    pub calling: Vec<u8>,
+    pub application: Vec<u8>,
+    pub sheet: Vec<u8>,
+}
+
+/// What comes with an accept response.
+#[derive(Clone, Debug)]
+pub struct AcContents {
+    pub echoed: Vec<u8>,
+    pub application: Vec<u8>,
+    pub sheet: Vec<u8>,
+}
+
+/// A title of another length than 16.
+pub fn title_of_other_length(random: &mut Random) -> Vec<u8> {
+    let length = random.pick(&[0, 1, 12, 15, 17, 32]);
+    vec![b'A'; length]
+}
+
+pub fn good_rq_contents(random: &mut Random, marks: &mut Marks) -> RqContents {
+    RqContents {
+        called: good_title(random),
+        calling: good_title(random),
+        application: good_name(random),
+        sheet: some_sheet(true, true, random, marks),
+    }
+}
+
+/// RQ fields with one bad part.
+pub fn bad_rq_contents(random: &mut Random, marks: &mut Marks) -> RqContents {
+    let mut contents = good_rq_contents(random, marks);
+    let name = match random.below(12) {
+        0 => {
+            contents.called = bad_title(random);
+            "contents: bad called title"
+        }
+        1 => {
+            contents.calling = bad_title(random);
+            "contents: bad calling title"
+        }
+        2 => {
+            contents.called = title_of_other_length(random);
+            "contents: called title of another length"
+        }
+        3 => {
+            contents.calling = title_of_other_length(random);
+            "contents: calling title of another length"
+        }
+        4 => {
+            contents.application = bad_name(random);
+            "contents: bad application name"
+        }
+        _ => {
+            contents.sheet = some_sheet(true, false, random, marks);
+            "contents: bad proposal"
+        }
+    };
+    marks.add(name);
+    contents
+}
+
+pub fn good_ac_contents(random: &mut Random, marks: &mut Marks) -> AcContents {
+    AcContents {
+        echoed: random.bytes(64),
+        application: good_name(random),
+        sheet: some_sheet(false, true, random, marks),
+    }
+}
+
+/// AC fields with one bad part.
+pub fn bad_ac_contents(random: &mut Random, marks: &mut Marks) -> AcContents {
+    let mut contents = good_ac_contents(random, marks);
+    let name = match random.below(6) {
+        0 | 1 => {
+            let length = random.pick(&[0, 1, 63, 63, 65, 65, 128]);
+            contents.echoed = random.bytes(length);
+            "contents: echoed bytes not 64"
+        }
+        2 => {
+            contents.application = bad_name(random);
+            "contents: bad application name of an AC"
+        }
+        _ => {
+            contents.sheet = some_sheet(false, false, random, marks);
+            "contents: bad answer"
+        }
+    };
+    marks.add(name);
+    contents
+}
+
+/// The names of all sheet twists, for coverage.
+pub fn twist_names() -> Vec<&'static str> {
+    [SHEET, PROPOSAL, ANSWER].iter().flat_map(|list| list.iter().map(|t| t.name)).collect()
+}

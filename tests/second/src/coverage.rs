@@ -1,0 +1,114 @@
+//! The coverage command: what the generator's calls reach, and what they leave out.
+
+use std::collections::BTreeMap;
+
+use crate::contents;
+use crate::generate::{filled_cells, Generator, BRANCHES};
+use crate::machine::cell;
+use crate::twists;
+
+#[derive(Default)]
+struct Counts {
+    bytes: usize,
+    refusals: BTreeMap<(String, u8), u64>,
+    bad_form: u64,
+    cells: BTreeMap<(u8, u8), u64>,
+    actions: BTreeMap<u8, u64>,
+    states: BTreeMap<u8, u64>,
+    kinds: BTreeMap<u8, u64>,
+    acceptable: u64,
+    over: u64,
+}
+
+/// Generates so many calls and tells what was met.
+pub fn report(seed: u64, count: usize) -> String {
+    let mut generator = Generator::new(seed);
+    let mut counts = Counts::default();
+    for _ in 0..count {
+        let call = generator.next();
+        note(&mut counts, &call.line, &call.answer, &call.last);
+    }
+    let mut text = format!("{} calls, {} bytes of call text, {} of bad form\n", count, counts.bytes, counts.bad_form);
+    text += &refusals(&counts);
+    text += &cells(&counts);
+    text += &smaller(&counts);
+    text += &branches(&generator.marks.counts);
+    text
+}
+
+fn note(counts: &mut Counts, line: &str, answer: &str, last: &crate::replay::Last) {
+    counts.bytes += line.len() + 1;
+    if answer == "?" {
+        counts.bad_form += 1;
+        return;
+    }
+    let call = line.split(' ').next().unwrap_or("").to_string();
+    *counts.refusals.entry((call.clone(), last.refusal)).or_insert(0) += 1;
+    if "recajd".contains(&call) {
+        *counts.states.entry(last.state_before).or_insert(0) += 1;
+    }
+    if last.answer.event != 0 {
+        *counts.cells.entry((last.answer.event, last.state_before)).or_insert(0) += 1;
+        *counts.actions.entry(last.answer.action).or_insert(0) += 1;
+    }
+    if call == "K" {
+        *counts.kinds.entry(last.kind).or_insert(0) += 1;
+        counts.acceptable += answer.starts_with("1 1") as u64;
+    }
+    counts.over += (line.len() > 30_000) as u64;
+}
+
+fn refusals(counts: &Counts) -> String {
+    let mut text = "refusals by call (0: answered)\ncall".to_string();
+    for number in 0..8 {
+        text += &format!("{:>8}", number);
+    }
+    text += "\n";
+    for call in "r e c a j d K Q A J B D T N V E 1 2 3 4 5 6 7".split(' ') {
+        text += &format!("{:<4}", call);
+        for number in 0..8u8 {
+            text += &format!("{:>8}", counts.refusals.get(&(call.to_string(), number)).unwrap_or(&0));
+        }
+        text += "\n";
+    }
+    text
+}
+
+fn cells(counts: &Counts) -> String {
+    let filled = filled_cells();
+    let met = filled.iter().filter(|pair| counts.cells.contains_key(pair)).count();
+    let mut text = format!("cells met: {} of {}\n", met, filled.len());
+    for event in 1..=19u8 {
+        text += &format!("event {:>2}:", event);
+        for state in 1..=13u8 {
+            text += &match cell(event, state) {
+                None => "      .".to_string(),
+                Some(_) => format!("{:>7}", counts.cells.get(&(event, state)).unwrap_or(&0)),
+            };
+        }
+        text += "\n";
+    }
+    text
+}
+
+fn smaller(counts: &Counts) -> String {
+    let mut text = format!("actions 1 to 28 met: {}\n", counts.actions.len());
+    text += &format!("states before machine calls: {:?}\n", counts.states);
+    text += &format!("kinds by K: {:?}, acceptable {}\n", counts.kinds, counts.acceptable);
+    text += &format!("lines above 30,000 bytes: {}\n", counts.over);
+    text
+}
+
+fn branches(used: &BTreeMap<String, u64>) -> String {
+    let mut all: Vec<String> = BRANCHES.iter().map(|branch| format!("branch: {}", branch.name)).collect();
+    all.extend(
+        twists::twist_names().iter().chain(contents::twist_names().iter()).map(|name| format!("twist: {}", name)),
+    );
+    let missing: Vec<&String> = all.iter().filter(|name| !used.contains_key(*name)).collect();
+    let mut text = "branches and twists used\n".to_string();
+    for (name, count) in used {
+        text += &format!("{:>8} {}\n", count, name);
+    }
+    text += &format!("never used: {:?}\n", missing);
+    text
+}

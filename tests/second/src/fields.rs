@@ -1,0 +1,118 @@
+//! Reading calls: the fields of a whole valid PDU of the kind asked for.
+
+use crate::valid::{judge, Associate, Context, Pdu};
+
+/// Bytes of one record of the context sheet.
+pub const RECORD: usize = 132;
+
+/// What K answers: kind, acceptable, maximum.
+#[derive(Clone, Copy, Debug, Default, PartialEq)]
+pub struct Kind {
+    pub kind: u8,
+    pub acceptable: bool,
+    pub maximum: u32,
+}
+
+/// The fields of an RQ or AC beside its sheet; all zero when refused.
+#[derive(Clone, Copy, Debug, Default, PartialEq)]
+pub struct Fields {
+    pub version: u16,
+    pub application_at: usize,
+    pub application_length: usize,
+    pub maximum: u32,
+    pub records: usize,
+}
+
+/// A PDV as read: its ID, control byte, and the fragment's part of the PDU.
+#[derive(Clone, Copy, Debug, Default, PartialEq)]
+pub struct Part {
+    pub id: u8,
+    pub control: u8,
+    pub start: usize,
+    pub length: usize,
+}
+
+pub fn kind(bytes: &[u8]) -> Kind {
+    match judge(bytes) {
+        Err(_) => Kind::default(),
+        Ok(Pdu::Rq(rq)) => Kind { kind: 1, acceptable: rq.has_version_bit(), maximum: rq.maximum },
+        Ok(Pdu::Ac(ac)) => Kind { kind: 2, acceptable: false, maximum: ac.maximum },
+        Ok(pdu) => Kind { kind: pdu.kind(), acceptable: false, maximum: 0 },
+    }
+}
+
+/// Reads an RQ; answers its fields and the sheet as it is afterwards.
+pub fn read_rq(bytes: &[u8], sheet: &[u8]) -> Result<(Fields, Vec<u8>), u8> {
+    match judge(bytes) {
+        Ok(Pdu::Rq(rq)) => fill(&rq, sheet),
+        _ => Err(7),
+    }
+}
+
+/// Reads an AC; answers its fields and the sheet as it is afterwards.
+pub fn read_ac(bytes: &[u8], sheet: &[u8]) -> Result<(Fields, Vec<u8>), u8> {
+    match judge(bytes) {
+        Ok(Pdu::Ac(ac)) => fill(&ac, sheet),
+        _ => Err(7),
+    }
+}
+
+fn fill(read: &Associate, sheet: &[u8]) -> Result<(Fields, Vec<u8>), u8> {
+    let filled: Vec<u8> = read.contexts.iter().flat_map(records).collect();
+    if sheet.len() < filled.len() {
+        return Err(2);
+    }
+    let mut after = filled.clone();
+    after.extend_from_slice(&sheet[filled.len()..]);
+    let fields = Fields {
+        version: read.version,
+        application_at: read.application_at,
+        application_length: read.application.len(),
+        maximum: read.maximum,
+        records: filled.len() / RECORD,
+    };
+    Ok((fields, after))
+}
+
+/// The records of one context, one per transfer name.
+fn records(context: &Context) -> Vec<u8> {
+    context.transfers.iter().flat_map(|t| sheet_record(context.id, context.result, context.abstract_name, t)).collect()
+}
+
+/// One record of the sheet; unused bytes of its name fields are zero.
+pub fn sheet_record(id: u8, result: u8, abstract_name: &[u8], transfer: &[u8]) -> Vec<u8> {
+    let mut record = vec![id, result, abstract_name.len() as u8, transfer.len() as u8];
+    record.extend_from_slice(abstract_name);
+    record.resize(4 + 64, 0);
+    record.extend_from_slice(transfer);
+    record.resize(RECORD, 0);
+    record
+}
+
+/// Reads an RJ: result, source, reason.
+pub fn read_rj(bytes: &[u8]) -> Result<(u8, u8, u8), u8> {
+    match judge(bytes) {
+        Ok(Pdu::Rj { result, source, reason }) => Ok((result, source, reason)),
+        _ => Err(7),
+    }
+}
+
+/// Reads an ABORT: source, reason.
+pub fn read_abort(bytes: &[u8]) -> Result<(u8, u8), u8> {
+    match judge(bytes) {
+        Ok(Pdu::Abort { source, reason }) => Ok((source, reason)),
+        _ => Err(7),
+    }
+}
+
+/// Reads a PDV by its number, from 0.
+pub fn read_pdv(bytes: &[u8], number: u64) -> Result<Part, u8> {
+    match judge(bytes) {
+        Ok(Pdu::Data(pdvs)) if number < pdvs.len() as u64 => {
+            let pdv = &pdvs[number as usize];
+            Ok(Part { id: pdv.id, control: pdv.control, start: pdv.at, length: pdv.fragment.len() })
+        }
+        Ok(Pdu::Data(_)) => Err(4),
+        _ => Err(7),
+    }
+}

@@ -1,0 +1,358 @@
+//! One call line in, one answer line out; a line of bad form is answered with `?`.
+
+use crate::fields::{kind, read_abort, read_ac, read_pdv, read_rj, read_rq, Fields};
+use crate::machine::{local_event, receive, Answer, Lent, Record, Request};
+use crate::names::{name_is_valid, title_check, title_is_valid, titles_equal};
+use crate::write;
+
+/// The longest byte string, and the longest gather buffer or output.
+pub const STRING_LIMIT: u64 = 17_000;
+/// The longest sheet.
+pub const SHEET_LIMIT: u64 = 66_000;
+
+/// What the last call was and did, for counting.
+#[derive(Clone, Copy, Debug, Default)]
+pub struct Last {
+    pub refusal: u8,
+    pub state_before: u8,
+    pub answer: Answer,
+    pub kind: u8,
+}
+
+/// Keeps the memory lent from one machine call to the next.
+pub struct Replay {
+    pub lent: Lent,
+    pub last: Last,
+}
+
+/// A digest of a whole buffer.
+pub fn digest(bytes: &[u8]) -> u64 {
+    bytes.iter().fold(1, |h, b| (h * 257 + *b as u64 + 1) % 4_294_967_291)
+}
+
+/// A fresh association with its buffers.
+pub fn fresh() -> Lent {
+    let record = Record { state: 1, ..Record::default() };
+    Lent { record, gather: vec![0xa5; 16_390], output: vec![0x5a; 16_390] }
+}
+
+/// The words of a call line, taken one after the other.
+struct Words<'a> {
+    words: Vec<&'a str>,
+    next: usize,
+}
+
+impl<'a> Words<'a> {
+    fn word(&mut self) -> Option<&'a str> {
+        self.next += 1;
+        self.words.get(self.next - 1).copied().filter(|word| !word.is_empty())
+    }
+
+    /// A decimal number up to the limit.
+    fn number(&mut self, limit: u64) -> Option<u64> {
+        let word = self.word()?;
+        if !word.bytes().all(|b| b.is_ascii_digit()) {
+            return None;
+        }
+        word.parse().ok().filter(|number| *number <= limit)
+    }
+
+    fn byte(&mut self) -> Option<u8> {
+        self.number(255).map(|n| n as u8)
+    }
+
+    fn mark(&mut self) -> Option<bool> {
+        self.number(1).map(|n| n == 1)
+    }
+
+    /// A byte string of lower-case hex, `-` for the empty one.
+    fn bytes(&mut self, limit: u64) -> Option<Vec<u8>> {
+        let word = self.word()?;
+        if word == "-" {
+            return Some(Vec::new());
+        }
+        let digits: Option<Vec<u8>> = word.bytes().map(hex_digit).collect();
+        let digits = digits?;
+        if digits.len() % 2 != 0 || digits.len() as u64 / 2 > limit {
+            return None;
+        }
+        Some(digits.chunks(2).map(|pair| pair[0] * 16 + pair[1]).collect())
+    }
+
+    fn string(&mut self) -> Option<Vec<u8>> {
+        self.bytes(STRING_LIMIT)
+    }
+
+    fn sheet(&mut self) -> Option<Vec<u8>> {
+        self.bytes(SHEET_LIMIT)
+    }
+
+    /// A buffer of so many equal bytes.
+    fn buffer(&mut self, limit: u64, filler: u8) -> Option<Vec<u8>> {
+        self.number(limit).map(|n| vec![filler; n as usize])
+    }
+
+    /// Nothing more may stand on the line.
+    fn end(&self) -> Option<()> {
+        if self.next == self.words.len() {
+            Some(())
+        } else {
+            None
+        }
+    }
+}
+
+fn hex_digit(byte: u8) -> Option<u8> {
+    match byte {
+        b'0'..=b'9' => Some(byte - b'0'),
+        b'a'..=b'f' => Some(byte - b'a' + 10),
+        _ => None,
+    }
+}
+
+impl Replay {
+    pub fn new() -> Replay {
+        Replay { lent: fresh(), last: Last::default() }
+    }
+
+    /// Answers one line, given without its newline.
+    pub fn answer(&mut self, line: &str) -> String {
+        self.call(line).unwrap_or_else(|| "?".to_string())
+    }
+
+    fn call(&mut self, line: &str) -> Option<String> {
+        let mut words = Words { words: line.split(' ').collect(), next: 0 };
+        self.last = Last::default();
+        match words.word()? {
+            "r" => self.receiving(&mut words),
+            "e" => self.numbered(&mut words),
+            "c" => self.confirmation(&mut words),
+            "a" => self.accept(&mut words),
+            "j" => self.reject(&mut words),
+            "d" => self.data(&mut words),
+            "K" | "Q" | "A" | "J" | "B" | "D" => self.reading(&mut words),
+            "T" | "N" | "V" | "E" => self.names(&mut words),
+            "1" | "2" | "3" | "4" | "5" | "6" | "7" => self.writing(&mut words),
+            _ => None,
+        }
+    }
+
+    /// RECORD: `=`, or nine words.
+    fn record(&self, words: &mut Words) -> Option<Lent> {
+        if words.words.get(words.next) == Some(&"=") {
+            words.next += 1;
+            return Some(self.lent.clone());
+        }
+        let record = Record {
+            state: words.byte()?,
+            gathered: words.number(u64::MAX)?,
+            deaf: words.mark()?,
+            artim: words.mark()?,
+            requestor: words.mark()?,
+            peer_maximum: words.number(u32::MAX as u64)? as u32,
+        };
+        let mut gather = words.buffer(STRING_LIMIT, 0xa5)?;
+        let first = words.bytes(gather.len() as u64)?;
+        gather[..first.len()].copy_from_slice(&first);
+        let output = words.buffer(STRING_LIMIT, 0x5a)?;
+        Some(Lent { record, gather, output })
+    }
+
+    /// Keeps what a machine call left, and writes its answer.
+    fn machine_answer(&mut self, before: &Lent, done: (Answer, Lent)) -> Option<String> {
+        let (answer, lent) = done;
+        self.last = Last { refusal: answer.refusal, state_before: before.record.state, answer, kind: 0 };
+        self.lent = lent;
+        let r = &self.lent.record;
+        Some(format!(
+            "{} {} {} {} {} {} {} {} {} {} {} {} {}",
+            answer.refusal,
+            answer.action,
+            answer.used,
+            answer.sent,
+            answer.shown,
+            r.state,
+            r.gathered,
+            r.deaf as u8,
+            r.artim as u8,
+            r.requestor as u8,
+            r.peer_maximum,
+            digest(&self.lent.gather),
+            digest(&self.lent.output)
+        ))
+    }
+
+    fn receiving(&mut self, words: &mut Words) -> Option<String> {
+        let lent = self.record(words)?;
+        let piece = words.string()?;
+        words.end()?;
+        self.machine_answer(&lent, receive(&lent, &piece))
+    }
+
+    fn event(&mut self, lent: &Lent, request: &Request) -> Option<String> {
+        self.machine_answer(lent, local_event(lent, request))
+    }
+
+    fn numbered(&mut self, words: &mut Words) -> Option<String> {
+        let lent = self.record(words)?;
+        let number = words.byte()?;
+        words.end()?;
+        self.event(&lent, &Request::Number(number))
+    }
+
+    fn confirmation(&mut self, words: &mut Words) -> Option<String> {
+        let lent = self.record(words)?;
+        let (called, calling) = (words.string()?, words.string()?);
+        let (application, sheet) = (words.string()?, words.sheet()?);
+        words.end()?;
+        let request =
+            Request::Confirmation { called: &called, calling: &calling, application: &application, sheet: &sheet };
+        self.event(&lent, &request)
+    }
+
+    fn accept(&mut self, words: &mut Words) -> Option<String> {
+        let lent = self.record(words)?;
+        let (echoed, application, sheet) = (words.string()?, words.string()?, words.sheet()?);
+        words.end()?;
+        self.event(&lent, &Request::Accept { echoed: &echoed, application: &application, sheet: &sheet })
+    }
+
+    fn reject(&mut self, words: &mut Words) -> Option<String> {
+        let lent = self.record(words)?;
+        let (result, source, reason) = (words.byte()?, words.byte()?, words.byte()?);
+        words.end()?;
+        self.event(&lent, &Request::Reject { result, source, reason })
+    }
+
+    fn data(&mut self, words: &mut Words) -> Option<String> {
+        let lent = self.record(words)?;
+        let items = words.string()?;
+        words.end()?;
+        self.event(&lent, &Request::Data { items: &items })
+    }
+
+    fn reading(&mut self, words: &mut Words) -> Option<String> {
+        let call = words.words[0];
+        let pdu = words.string()?;
+        match call {
+            "Q" | "A" => self.associate_fields(call, &pdu, words),
+            "D" => self.pdv(&pdu, words),
+            _ => {
+                words.end()?;
+                Some(self.small_fields(call, &pdu))
+            }
+        }
+    }
+
+    fn associate_fields(&mut self, call: &str, pdu: &[u8], words: &mut Words) -> Option<String> {
+        let lent = words.buffer(SHEET_LIMIT, 0xc3)?;
+        words.end()?;
+        let read = if call == "Q" { read_rq(pdu, &lent) } else { read_ac(pdu, &lent) };
+        let (refusal, fields, sheet) = match read {
+            Ok((fields, sheet)) => (0, fields, sheet),
+            Err(refusal) => (refusal, Fields::default(), lent),
+        };
+        self.last.refusal = refusal;
+        Some(format!(
+            "{} {} {} {} {} {} {}",
+            refusal,
+            fields.version,
+            fields.application_at,
+            fields.application_length,
+            fields.maximum,
+            fields.records,
+            digest(&sheet)
+        ))
+    }
+
+    fn pdv(&mut self, pdu: &[u8], words: &mut Words) -> Option<String> {
+        let number = words.number(u64::MAX)?;
+        words.end()?;
+        Some(match read_pdv(pdu, number) {
+            Ok(part) => format!("0 {} {} {} {}", part.id, part.control, part.start, part.length),
+            Err(refusal) => {
+                self.last.refusal = refusal;
+                format!("{} 0 0 0 0", refusal)
+            }
+        })
+    }
+
+    fn small_fields(&mut self, call: &str, pdu: &[u8]) -> String {
+        match call {
+            "J" => match read_rj(pdu) {
+                Ok((result, source, reason)) => format!("0 {} {} {}", result, source, reason),
+                Err(refusal) => self.refused(refusal, " 0 0 0"),
+            },
+            "B" => match read_abort(pdu) {
+                Ok((source, reason)) => format!("0 {} {}", source, reason),
+                Err(refusal) => self.refused(refusal, " 0 0"),
+            },
+            _ => {
+                let found = kind(pdu);
+                self.last.kind = found.kind;
+                format!("{} {} {}", found.kind, found.acceptable as u8, found.maximum)
+            }
+        }
+    }
+
+    fn refused(&mut self, refusal: u8, zeros: &str) -> String {
+        self.last.refusal = refusal;
+        format!("{}{}", refusal, zeros)
+    }
+
+    fn names(&mut self, words: &mut Words) -> Option<String> {
+        let call = words.words[0];
+        let first = words.string()?;
+        let second = if call == "T" || call == "E" { words.string()? } else { Vec::new() };
+        words.end()?;
+        Some(match call {
+            "T" => match title_check(&first, &second) {
+                Ok(known) => format!("0 {}", known as u8),
+                Err(refusal) => self.refused(refusal, " 0"),
+            },
+            "N" => (name_is_valid(&first) as u8).to_string(),
+            "V" => (title_is_valid(&first) as u8).to_string(),
+            _ => (titles_equal(&first, &second) as u8).to_string(),
+        })
+    }
+
+    fn writing(&mut self, words: &mut Words) -> Option<String> {
+        let written = written(words)?;
+        let output = words.buffer(STRING_LIMIT, 0x5a)?;
+        words.end()?;
+        let put = written.and_then(|sent| write::into_output(&sent, &output).map(|after| (sent.len(), after)));
+        Some(match put {
+            Ok((sent, after)) => format!("0 {} {}", sent, digest(&after)),
+            Err(refusal) => {
+                self.last.refusal = refusal;
+                format!("{} 0 {}", refusal, digest(&output))
+            }
+        })
+    }
+}
+
+/// The PDU of a writing call, or its refusal 4 or 5; None for bad form.
+fn written(words: &mut Words) -> Option<Result<Vec<u8>, u8>> {
+    Some(match words.words[0] {
+        "1" => {
+            let (called, calling) = (words.string()?, words.string()?);
+            let (application, sheet) = (words.string()?, words.sheet()?);
+            write::rq(&called, &calling, &application, &sheet)
+        }
+        "2" => {
+            let (echoed, application, sheet) = (words.string()?, words.string()?, words.sheet()?);
+            write::ac(&echoed, &application, &sheet)
+        }
+        "3" => {
+            let (result, source, reason) = (words.byte()?, words.byte()?, words.byte()?);
+            write::rj(result, source, reason)
+        }
+        "4" => write::data(&words.string()?, 0),
+        "5" => Ok(write::release_rq()),
+        "6" => Ok(write::release_rp()),
+        _ => {
+            let (source, reason) = (words.byte()?, words.byte()?);
+            write::abort(source, reason)
+        }
+    })
+}
