@@ -1,3 +1,4 @@
 pub mod IdLaws
 pub mod ContentLaws
 pub mod Agree
+pub mod GoodLaws

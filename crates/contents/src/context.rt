@@ -65,14 +65,15 @@ fn proposed_ok(b: &[u8]) -> bool
     if b.len() < 4 {
         return false;
     }
-    if b[0] % 2 != 1 {
+    let id = b[0];
+    if id % 2 != 1 {
         return false;
     }
     subs_ok(&b[4..])
 }
 
 // Whether the items fill s and exactly one is of type t.
-pub fn one_of(t: u8, s: &[u8]) -> bool
+pub(crate) fn one_of(t: u8, s: &[u8]) -> bool
     ensures { λ r. ⌜ r ≡ one t (walk (now (s .entry))) ⌝ }
 {
     if !items::fills(s) {
@@ -106,7 +107,7 @@ fn answered_ok(b: &[u8]) -> bool
 }
 
 // Whether a context of type k may have this body.
-pub fn context_good(k: u8, b: &[u8]) -> bool
+pub(crate) fn context_good(k: u8, b: &[u8]) -> bool
     ensures { λ r. ⌜ r ≡ contextGood k (now (b .entry)) ⌝ }
 {
     if k == 0x20 {

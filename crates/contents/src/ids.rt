@@ -22,7 +22,7 @@ fn id_at(s: &[u8], at: usize, e: usize) -> u8
 }
 
 // Whether no ID comes twice among the contexts of type k: each pair is compared, until the first that is equal.
-pub fn ids_differ(k: u8, s: &[u8]) -> bool
+pub(crate) fn ids_differ(k: u8, s: &[u8]) -> bool
     ensures { λ r. ⌜ r ≡ distinct (ids k (walk (now (s .entry)))) ⌝ }
 {
     let mut differ = true;

@@ -3,7 +3,7 @@ ghost use mathlib.Core.Path.{_≡_};
 ghost use Rattle.contents.specs.Contents.{good50H, maximumIn};
 use crate::context::one_of;
 
-pub fn user_ok(b: &[u8]) -> bool
+pub(crate) fn user_ok(b: &[u8]) -> bool
     ensures { λ r. ⌜ r ≡ good50H (now (b .entry)) ⌝ }
 {
     if !one_of(0x51, b) {

@@ -1,0 +1,5 @@
+pub mod FillLaws
+pub mod ReadLaws
+pub mod ValueLaws
+pub mod DataLaws
+pub mod Agree

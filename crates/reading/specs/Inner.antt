@@ -25,7 +25,7 @@ bodyRecords k b =
     (recordOf (getD b 0 0) (getD b 2 0) [] (first (bodies 0x40 (walk (drop 4 b)))))
 
 -- those of all contexts
-unfoldable pub allRecords : ℕ → List ℕ → List ℕ
+abbrev pub allRecords : ℕ → List ℕ → List ℕ
 allRecords k s = each (bodyRecords k) (bodies k (walk s))
 
 unfoldable pub bodyRows : ℕ → List ℕ → ℕ

@@ -8,8 +8,8 @@ returns : tie.Need-returns
 unfolding good20H
 returns c = search bodied
 
-shared-slice-read-if2 : tie.Need-shared-slice-read-if2
-shared-slice-read-if2 c = search bodied
+shared-slice-read-id : tie.Need-shared-slice-read-id
+shared-slice-read-id c = search bodied
 
 returns-2 : tie.Need-returns-2
 unfolding good20H
@@ -36,7 +36,7 @@ proposed-ok-spec =
     tie.close
     (tie.spec
     returns
-    shared-slice-read-if2
+    shared-slice-read-id
     returns-2
     sub-subs-ok
     part-subs-ok-start

@@ -1,40 +1,31 @@
-use borrow.Author.Needs.{needs}
+-- `reading::behind_four` meets its contract. Assumes nothing.
+use Rattle.reading.proofs.FillLaws.{four-laws}
 use Rattle.reading.proofs.fill.behind_four.Statement.{statement}
 use Rattle.reading.proofs.fill.behind_four.Tie as tie
-use Rattle.reading.proofs.fill.behind_four.Reads as reads
-use Rattle.reading.proofs.fill.behind_four.Lts as lts
 
--- src/fill.rt:15:16
 sub-result : tie.Need-sub-result
-sub-result c = search needs
+sub-result c = search four-laws
 
--- src/fill.rt:15:16
 part-result-start : tie.Need-part-result-start
-part-result-start c = search needs
+part-result-start c = search four-laws
 
--- src/fill.rt:15:16
 part-result-end : tie.Need-part-result-end
-part-result-end c = search needs
+part-result-end c = search four-laws
 
--- src/fill.rt:15:9
 returns : tie.Need-returns
-returns c = ?
+returns c = search four-laws
 
--- src/fill.rt:17:5
 sub-result-2 : tie.Need-sub-result-2
-sub-result-2 c = search needs
+sub-result-2 c = search four-laws
 
--- src/fill.rt:17:5
 part-result-start-2 : tie.Need-part-result-start-2
-part-result-start-2 c = search needs
+part-result-start-2 c = search four-laws
 
--- src/fill.rt:17:5
 part-result-end-2 : tie.Need-part-result-end-2
-part-result-end-2 c = search needs
+part-result-end-2 c = search four-laws
 
--- src/fill.rt:11:1
 returns-2 : tie.Need-returns-2
-returns-2 c = ?
+returns-2 c = search four-laws
 
 pub behind-four-spec : {M : Type 1} → statement M
 behind-four-spec =

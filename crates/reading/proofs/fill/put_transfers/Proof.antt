@@ -1,79 +1,64 @@
+-- `reading::put_transfers` meets its contract. Assumes nothing.
+use Prim.Native.Nat.{_-_}
+use lib.ListN.{length}
+use Rattle.sheets.specs.Record.{recordOf}
+use Rattle.reading.proofs.FillLaws.{Filling, fill-laws}
 use Rattle.reading.proofs.fill.put_transfers.Statement.{statement}
 use Rattle.reading.proofs.fill.put_transfers.Tie as tie
-use Rattle.reading.proofs.fill.put_transfers.Reads as reads
-use Rattle.reading.proofs.fill.put_transfers.Lts as lts
-use Rattle.items.proofs.item_end.Reads as item-end-reads
-use Rattle.reading.proofs.fill.put_record.Reads as put-record-reads
 
 abbrev Inv-loop : tie.InvT-loop
-Inv-loop sheet₀ from id a s n₀ at₀ sheet n at = ?
+Inv-loop sheet₀ from id a s n₀ at₀ sheet n at = Filling (recordOf id 0 a) 0x40 s sheet₀ from sheet n at
 
 abbrev μ-loop : tie.MeasureT-loop
-μ-loop sheet₀ from id a s n₀ at₀ sheet n at = ?
+μ-loop sheet₀ from id a s n₀ at₀ sheet n at = length s - at
 
--- src/fill.rt:64:5
 loop-holds : tie.Need-loop-holds Inv-loop μ-loop
-loop-holds c = ?
+loop-holds c = search fill-laws
 
--- src/fill.rt:65:13
 item-end-requires : tie.Need-item-end-requires Inv-loop μ-loop
-item-end-requires c κs = ?
+item-end-requires c κs = search fill-laws
 
--- src/fill.rt:67:13
 same-length : tie.Need-same-length Inv-loop μ-loop
-same-length c = ?
+same-length c = search fill-laws
 
--- src/fill.rt:67:13
 returns : tie.Need-returns Inv-loop μ-loop
-returns c = ?
+returns c = search fill-laws
 
--- src/fill.rt:69:12
 shared-slice-read-if2 : tie.Need-shared-slice-read-if2 Inv-loop μ-loop
-shared-slice-read-if2 c = ?
+shared-slice-read-if2 c = search fill-laws
 
--- src/fill.rt:70:21
 add-b : tie.Need-add-b Inv-loop μ-loop
-add-b c = ?
+add-b c = search fill-laws
 
--- src/fill.rt:71:48
 sub-put-record : tie.Need-sub-put-record Inv-loop μ-loop
-sub-put-record c = ?
+sub-put-record c = search fill-laws
 
--- src/fill.rt:71:48
 part-put-record-start : tie.Need-part-put-record-start Inv-loop μ-loop
-part-put-record-start c = ?
+part-put-record-start c = search fill-laws
 
--- src/fill.rt:71:48
 part-put-record-end : tie.Need-part-put-record-end Inv-loop μ-loop
-part-put-record-end c = ?
+part-put-record-end c = search fill-laws
 
--- src/fill.rt:71:13
 put-record-requires : tie.Need-put-record-requires Inv-loop μ-loop
-put-record-requires c κs = ?
+put-record-requires c κs = search fill-laws
 
--- src/fill.rt:64:5
 loop-less : tie.Need-loop-less Inv-loop μ-loop
-loop-less c = ?
+loop-less c = search fill-laws
 
--- src/fill.rt:64:5
 loop-again : tie.Need-loop-again Inv-loop μ-loop
-loop-again c = ?
+loop-again c = search fill-laws
 
--- src/fill.rt:64:5
 loop-less-2 : tie.Need-loop-less-2 Inv-loop μ-loop
-loop-less-2 c = ?
+loop-less-2 c = search fill-laws
 
--- src/fill.rt:64:5
 loop-again-2 : tie.Need-loop-again-2 Inv-loop μ-loop
-loop-again-2 c = ?
+loop-again-2 c = search fill-laws
 
--- src/fill.rt:58:1
 same-length-2 : tie.Need-same-length-2 Inv-loop μ-loop
-same-length-2 c = ?
+same-length-2 c = search fill-laws
 
--- src/fill.rt:58:1
 returns-2 : tie.Need-returns-2 Inv-loop μ-loop
-returns-2 c = ?
+returns-2 c = search fill-laws
 
 pub put-transfers-spec : {M : Type 1} → statement M
 put-transfers-spec =

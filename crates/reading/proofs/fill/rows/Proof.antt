@@ -1,75 +1,60 @@
+-- `reading::rows` meets its contract. Assumes nothing.
+use Prim.Native.Nat.{_-_}
+use lib.ListN.{length}
+use Rattle.reading.proofs.FillLaws.{Rows, rows-laws}
 use Rattle.reading.proofs.fill.rows.Statement.{statement}
 use Rattle.reading.proofs.fill.rows.Tie as tie
-use Rattle.reading.proofs.fill.rows.Reads as reads
-use Rattle.reading.proofs.fill.rows.Lts as lts
-use Rattle.items.proofs.item_end.Reads as item-end-reads
-use Rattle.reading.proofs.fill.rows_in.Reads as rows-in-reads
 
 abbrev Inv-loop : tie.InvT-loop
-Inv-loop k s n₀ at₀ n at = ?
+Inv-loop k s n₀ at₀ n at = Rows k s n at
 
 abbrev μ-loop : tie.MeasureT-loop
-μ-loop k s n₀ at₀ n at = ?
+μ-loop k s n₀ at₀ n at = length s - at
 
--- src/fill.rt:35:5
 loop-holds : tie.Need-loop-holds Inv-loop μ-loop
-loop-holds c = ?
+loop-holds c = search rows-laws
 
--- src/fill.rt:36:13
 item-end-requires : tie.Need-item-end-requires Inv-loop μ-loop
-item-end-requires c κs = ?
+item-end-requires c κs = search rows-laws
 
--- src/fill.rt:38:13
 returns : tie.Need-returns Inv-loop μ-loop
-returns c = ?
+returns c = search rows-laws
 
--- src/fill.rt:40:12
 shared-slice-read-if2 : tie.Need-shared-slice-read-if2 Inv-loop μ-loop
-shared-slice-read-if2 c = ?
+shared-slice-read-if2 c = search rows-laws
 
--- src/fill.rt:41:21
 add-a : tie.Need-add-a Inv-loop μ-loop
-add-a c = ?
+add-a c = search rows-laws
 
--- src/fill.rt:42:29
 sub-rows-in : tie.Need-sub-rows-in Inv-loop μ-loop
-sub-rows-in c = ?
+sub-rows-in c = search rows-laws
 
--- src/fill.rt:42:29
 part-rows-in-start : tie.Need-part-rows-in-start Inv-loop μ-loop
-part-rows-in-start c = ?
+part-rows-in-start c = search rows-laws
 
--- src/fill.rt:42:29
 part-rows-in-end : tie.Need-part-rows-in-end Inv-loop μ-loop
-part-rows-in-end c = ?
+part-rows-in-end c = search rows-laws
 
--- src/fill.rt:42:18
 rows-in-requires : tie.Need-rows-in-requires Inv-loop μ-loop
-rows-in-requires c κs = ?
+rows-in-requires c κs = search rows-laws
 
--- src/fill.rt:42:13
 add-n : tie.Need-add-n Inv-loop μ-loop
-add-n c = ?
+add-n c = search rows-laws
 
--- src/fill.rt:35:5
 loop-less : tie.Need-loop-less Inv-loop μ-loop
-loop-less c = ?
+loop-less c = search rows-laws
 
--- src/fill.rt:35:5
 loop-again : tie.Need-loop-again Inv-loop μ-loop
-loop-again c = ?
+loop-again c = search rows-laws
 
--- src/fill.rt:35:5
 loop-less-2 : tie.Need-loop-less-2 Inv-loop μ-loop
-loop-less-2 c = ?
+loop-less-2 c = search rows-laws
 
--- src/fill.rt:35:5
 loop-again-2 : tie.Need-loop-again-2 Inv-loop μ-loop
-loop-again-2 c = ?
+loop-again-2 c = search rows-laws
 
--- src/fill.rt:30:1
 returns-2 : tie.Need-returns-2 Inv-loop μ-loop
-returns-2 c = ?
+returns-2 c = search rows-laws
 
 pub rows-spec : {M : Type 1} → statement M
 rows-spec =

@@ -1,0 +1,34 @@
+-- Any two permitted answers agree, for each public function, and so do the contents of the lent sheet.
+-- Assumes nothing.
+use mathlib.Core.Path.{_≡_}
+use contract.Lifetimes.{Lfts}
+use denote.Ref.{now}
+use denote.Triple.Clauses.{AtExit}
+use borrow.Fn.Kinds.{Dens, resT, endedOf}
+use Rattle.laws.proofs.Agree.{agree, Agrees, AgreesLent}
+use Rattle.reading.proofs.associate.read_request as read-request
+use Rattle.reading.proofs.associate.read_accept as read-accept
+use Rattle.reading.proofs.values.read_reject as read-reject
+use Rattle.reading.proofs.values.read_abort as read-abort
+use Rattle.reading.proofs.data.read_data as read-data
+use Rattle.reading.proofs.data.fragment as fragment
+
+pub read-request-agrees : AgreesLent 2 read-request.Kinds.ps read-request.Kinds.r read-request.Reads.Post (λ κs x. now (x .1 .0))
+read-request-agrees κs args a b x y p q = (agree (p .answer) (q .answer), agree (p .sheet) (q .sheet))
+
+pub read-accept-agrees : AgreesLent 2 read-accept.Kinds.ps read-accept.Kinds.r read-accept.Reads.Post (λ κs x. now (x .1 .0))
+read-accept-agrees κs args a b x y p q = (agree (p .answer) (q .answer), agree (p .sheet) (q .sheet))
+
+pub read-reject-agrees : Agrees 1 read-reject.Kinds.ps read-reject.Kinds.r read-reject.Reads.Post
+read-reject-agrees κs args a b x y p q = agree p q
+
+pub read-abort-agrees : Agrees 1 read-abort.Kinds.ps read-abort.Kinds.r read-abort.Reads.Post
+read-abort-agrees κs args a b x y p q = agree p q
+
+pub read-data-agrees : Agrees 1 read-data.Kinds.ps read-data.Kinds.r read-data.Reads.Post
+read-data-agrees κs args a b x y p q = agree p q
+
+-- of the part that is handed back, the bytes agree; where it starts and how long it is says read_data
+pub fragment-agrees : (κs : Lfts 1) (args : Dens κs fragment.Kinds.ps) (a b : resT fragment.Kinds.r κs .Denot) (x y : AtExit (endedOf 1 fragment.Kinds.ps fragment.Kinds.r) κs)
+    → fragment.Reads.Post κs args a x → fragment.Reads.Post κs args b y → now a ≡ now b
+fragment-agrees κs args a b x y p q = agree p q

@@ -1,0 +1,236 @@
+-- Records put into the sheet, one body after the other: the loops of filling and of counting.
+-- Assumes nothing.
+use Prim.Native.Nat.{ℕ, zero, suc, _+_, _-_, _*_, _^_, _≤_, _<_}
+use native.Mathlib.Omega.{arith}
+use mathlib.Core.Bool.{Bool, true, false, cond}
+use mathlib.Core.List.{List, [], _∷_, _++_}
+use mathlib.Core.Path.{_≡_, refl, sym, ap, _∙_}
+use lib.ListN.{length, take, drop, getD, length-append, length-drop, drop-of-length-le}
+use lib.Seq.{take-all}
+use lib.Dec.{eqb}
+use borrow.Author.Needs.{needs}
+use borrow.Author.Tests.{eq-eqb, ne-eqb}
+use mir.Val.{Fits}
+use mir.Syntax.{w64}
+use Rattle.laws.proofs.Places.{part-tail}
+use Rattle.octets.specs.Put.{put, Placed}
+use Rattle.octets.proofs.PutLaws.{put-out, put-behind, put-length, put-put, put-none}
+use Rattle.items.specs.Items.{walk, bodies, first, itemEnd}
+use Rattle.items.proofs.WalkLaws.{more, walking}
+use Rattle.items.proofs.ItemLaws.{bodyAt, body-length, bodies-more, bodies-skip, bodies-stop, bodies-over}
+use Rattle.items.proofs.PlaceLaws.{stands}
+use Rattle.sheets.specs.Sheet.{recordBytes}
+use Rattle.sheets.specs.Record.{recordOf}
+use Rattle.sheets.proofs.RecordLaws.{record-length, cut-short}
+use Rattle.reading.specs.Inner.{each, bodyRecords, bodyRows, rowsOf, Written}
+
+-- ---- one record
+pub record-132 : (id result : ℕ) (a x : List ℕ) → length (recordOf id result a x) ≡ 132
+unfolding recordOf
+record-132 id result a x = record-length id result (take 64 a) (take 64 x) (cut-short a) (cut-short x)
+
+-- `put_record`
+pub record-written : (o o′ r a x : List ℕ) (n m id result : ℕ) → n + 132 ≤ length o → r ≡ recordOf id result a x → Placed o n r m o′ → Written o n (recordOf id result a x) m o′
+record-written o o′ r a x n m id result h e p =
+    let l : length r ≡ 132 = ap length e ∙ record-132 id result a x in
+    record {
+      behind = put-behind o n r p (omega arith) ∙ rw e;
+      out = put-out o n r p (omega arith) ∙ rw e;
+    }
+
+pub record-long : (r a x : List ℕ) (id result : ℕ) → r ≡ recordOf id result a x → length r ≡ 132
+record-long r a x id result e = ap length e ∙ record-132 id result a x
+
+pub ruleset record-laws = (needs, record-written, record-long)
+
+-- `behind_four`
+pub four-short : (b : List ℕ) → length b < 4 → [] ≡ drop 4 b
+four-short b h = let l : length b ≤ 4 = omega arith in sym (drop-of-length-le b l)
+
+pub four-tail : (b : List ℕ) → take (length b - 4) (drop 4 b) ≡ drop 4 b
+four-tail b = part-tail 4 b
+
+pub ruleset four-laws = (needs, four-short, four-tail)
+
+-- ---- the loop that puts f of each body of a type: o₀ was the sheet, o is now, and n bytes of it are done
+pub record Filling (f : List ℕ → List ℕ) (t : ℕ) (s o₀ : List ℕ) (from : ℕ) (o : List ℕ) (n at : ℕ) : Type 0 where
+  pub whole : put o₀ from (each f (bodies t (walk s))) ≡ put o n (each f (bodies t (walk (drop at s))))
+  pub count : from + length (each f (bodies t (walk s))) ≡ n + length (each f (bodies t (walk (drop at s))))
+  pub room : n + length (each f (bodies t (walk (drop at s)))) ≤ length o
+  pub long : length o ≡ length o₀
+
+pub fill-start : (f : List ℕ → List ℕ) (t : ℕ) (s o : List ℕ) (from : ℕ) → from + length (each f (bodies t (walk s))) ≤ length o → Filling f t s o from o from 0
+fill-start f t s o from h = record { whole = refl; count = refl; room = h; long = refl }
+
+pub fill-begin : (f : List ℕ → List ℕ) (t : ℕ) (s o : List ℕ) → length (each f (bodies t (walk s))) ≤ length o → Filling f t s o 0 o 0 0
+fill-begin f t s o h = fill-start f t s o 0 (omega arith)
+
+module _ (f : List ℕ → List ℕ) (t : ℕ) (s o₀ : List ℕ) (from : ℕ) (o : List ℕ) (n at : ℕ) (w : Filling f t s o₀ from o n at) where
+  -- nothing is left
+  ended : bodies t (walk (drop at s)) ≡ [] → Written o₀ from (each f (bodies t (walk s))) n o
+  unfolding each
+  ended e =
+      let c = w .count in
+      let z : length (each f (bodies t (walk (drop at s)))) ≡ 0 = rw e in
+      record { behind = omega arith; out = sym (w .whole ∙ (rw e (put-none o n))) }
+
+  pub fill-stop : (e : ℕ) → e ≡ itemEnd s at → e ≡ 0 → at < length s → Written o₀ from (each f (bodies t (walk s))) n o
+  fill-stop e p z l = ended (bodies-stop t s at e p z l)
+
+  pub fill-over : length s ≤ at → Written o₀ from (each f (bodies t (walk s))) n o
+  fill-over h = ended (bodies-over t s at h)
+
+  pub fill-long : length o ≡ length o₀
+  fill-long = w .long
+
+  module _ (e : ℕ) (p : e ≡ itemEnd s at) (k : e ≡ 0 → ⊥) where
+    pub fill-skip : (getD s at 0 ≡ t → ⊥) → Filling f t s o₀ from o n e
+    fill-skip h =
+        let i = bodies-skip t (more s at e p k) h in
+        record { whole = w .whole ∙ rw i; count = w .count ∙ rw i; room = rw i at (w .room); long = w .long }
+
+    module _ (h : getD s at 0 ≡ t) where
+      split : each f (bodies t (walk (drop at s))) ≡ f (bodyAt s at e) ++ each f (bodies t (walk (drop e s)))
+      unfolding each
+      split = rw (bodies-more t (more s at e p k) h)
+
+      sum : length (each f (bodies t (walk (drop at s)))) ≡ length (f (bodyAt s at e)) + length (each f (bodies t (walk (drop e s))))
+      sum = ap length split ∙ length-append (f (bodyAt s at e)) (each f (bodies t (walk (drop e s))))
+
+      fill-room : n + length (f (take (e - (at + 4)) (drop (at + 4) s))) ≤ length o
+      fill-room = let z = sum in let r = w .room in omega arith
+
+      pub fill-next : (o′ : List ℕ) (n′ : ℕ) → Written o n (f (take (e - (at + 4)) (drop (at + 4) s))) n′ o′ → Filling f t s o₀ from o′ n′ e
+      fill-next o′ n′ v =
+          let z = sum in
+          let r = w .room in
+          let u = w .count in
+          let c = v .behind in
+          let q : length o′ ≡ length o = ap length (v .out) ∙ put-length o n (f (bodyAt s at e)) fill-room in
+          let g : put (put o n (f (bodyAt s at e))) (n + length (f (bodyAt s at e))) (each f (bodies t (walk (drop e s)))) ≡ put o n (each f (bodies t (walk (drop at s))))
+          = put-put o n (f (bodyAt s at e)) (each f (bodies t (walk (drop e s)))) fill-room ∙ ap (put o n) (sym split) in
+          record {
+            whole = w .whole ∙ (sym g ∙ rw (c, v .out));
+            count = omega arith;
+            room = omega arith;
+            long = q ∙ w .long;
+          }
+
+-- a record has room
+pub fill-132 : (id : ℕ) (a s o₀ : List ℕ) (from : ℕ) (o : List ℕ) (n at : ℕ) → Filling (recordOf id 0 a) 0x40 s o₀ from o n at → (e : ℕ) → e ≡ itemEnd s at → (e ≡ 0 → ⊥) → getD s at 0 ≡ 0x40 → n + 132 ≤ length o
+fill-132 id a s o₀ from o n at w e p k h =
+    let r = fill-room (recordOf id 0 a) 0x40 s o₀ from o n at w e p k h in
+    let l = record-132 id 0 a (bodyAt s at e) in
+    omega arith
+
+-- and so has a context
+pub fill-body : (k : ℕ) (s o₀ : List ℕ) (from : ℕ) (o : List ℕ) (n at : ℕ) → Filling (bodyRecords k) k s o₀ from o n at → (e : ℕ) → e ≡ itemEnd s at → (e ≡ 0 → ⊥) → getD s at 0 ≡ k
+    → n + length (bodyRecords k (take (e - (at + 4)) (drop (at + 4) s))) ≤ length o
+fill-body k s o₀ from o n at w e p ne h = fill-room (bodyRecords k) k s o₀ from o n at w e p ne h
+
+pub ruleset fill-laws = (fill-start, fill-begin, fill-stop, fill-over, fill-long, fill-skip, fill-132, fill-body, fill-next, walking)
+
+-- ---- one context
+module _ (b s a : List ℕ) (id : ℕ) (p : s ≡ drop 4 b) (q : id ≡ getD b 0 0) where
+  module _ (u : a ≡ first (bodies 0x30 (walk s))) where
+    proposed-is : each (recordOf id 0 a) (bodies 0x40 (walk s)) ≡ bodyRecords 0x20 b
+    unfolding bodyRecords
+    proposed-is = rw (u, p, q)
+
+    pub proposed-room : (n : ℕ) (o : List ℕ) → n + length (bodyRecords 0x20 b) ≤ length o → n + length (each (recordOf id 0 a) (bodies 0x40 (walk s))) ≤ length o
+    proposed-room n o h = rw proposed-is h
+
+    pub proposed-written : (n m : ℕ) (o o′ : List ℕ) → Written o n (each (recordOf id 0 a) (bodies 0x40 (walk s))) m o′ → Written o n (bodyRecords 0x20 b) m o′
+    proposed-written n m o o′ w = rw proposed-is at w
+
+  pub answered-written : (n m result : ℕ) (o o′ x : List ℕ) → result ≡ getD b 2 0 → x ≡ first (bodies 0x40 (walk s)) → Written o n (recordOf id result [] x) m o′ → Written o n (bodyRecords 0x21 b) m o′
+  unfolding bodyRecords
+  answered-written n m result o o′ x g u w = rw (g, u, p, q) at w
+
+pub ruleset one-laws = (needs, proposed-room, proposed-written, answered-written)
+
+module _ (k : ℕ) (b o : List ℕ) (n : ℕ) where
+  pub as-proposed-room : k ≡ 0x20 → n + length (bodyRecords k b) ≤ length o → n + length (bodyRecords 0x20 b) ≤ length o
+  as-proposed-room e h = rw e at h
+
+  pub as-proposed : (m : ℕ) (o′ : List ℕ) → k ≡ 0x20 → Written o n (bodyRecords 0x20 b) m o′ → Written o n (bodyRecords k b) m o′
+  as-proposed m o′ e w = rw e w
+
+  other-type : (k ≡ 0x20 → ⊥) → bodyRecords k b ≡ recordOf (getD b 0 0) (getD b 2 0) [] (first (bodies 0x40 (walk (drop 4 b))))
+  unfolding bodyRecords
+  other-type e = rw (ne-eqb k 0x20 e)
+
+  pub as-answered-room : (k ≡ 0x20 → ⊥) → n + length (bodyRecords k b) ≤ length o → n + 132 ≤ length o
+  as-answered-room e h =
+      let l : length (bodyRecords k b) ≡ 132 = ap length (other-type e) ∙ record-132 (getD b 0 0) (getD b 2 0) [] (first (bodies 0x40 (walk (drop 4 b)))) in
+      omega arith
+
+  pub as-answered : (m : ℕ) (o′ : List ℕ) → (k ≡ 0x20 → ⊥) → Written o n (bodyRecords 0x21 b) m o′ → Written o n (bodyRecords k b) m o′
+  unfolding bodyRecords
+  as-answered m o′ e w = rw (other-type e) w
+
+pub ruleset context-laws = (needs, as-proposed-room, as-proposed, as-answered-room, as-answered)
+
+-- ---- counting
+pub rows-proposed : (k r : ℕ) (b x : List ℕ) → k ≡ 0x20 → x ≡ drop 4 b → r ≡ length (bodies 0x40 (walk x)) → r ≡ bodyRows k b
+unfolding bodyRows
+rows-proposed k r b x e p q = q ∙ rw (p, e)
+
+pub rows-answered : (k : ℕ) (b : List ℕ) → (k ≡ 0x20 → ⊥) → 1 ≡ bodyRows k b
+unfolding bodyRows
+rows-answered k b e = rw (ne-eqb k 0x20 e)
+
+pub ruleset rows-in-laws = (needs, rows-proposed, rows-answered)
+
+-- no context gives more records than it has bytes
+few : (k : ℕ) (b : List ℕ) → bodyRows k b ≤ 4 + length b
+unfolding bodyRows
+few k b = go (eqb k 0x20)
+  where
+    go : (d : Bool) → cond d (length (bodies 0x40 (walk (drop 4 b)))) 1 ≤ 4 + length b
+    go true = let f = stands 0x40 (drop 4 b) .few in let l = length-drop 4 b in omega arith
+    go false = omega arith
+
+pub record Rows (k : ℕ) (s : List ℕ) (n at : ℕ) : Type 0 where
+  pub count : rowsOf k (bodies k (walk s)) ≡ n + rowsOf k (bodies k (walk (drop at s)))
+  pub below : n ≤ at
+
+pub rows-start : (k : ℕ) (s : List ℕ) → Rows k s 0 0
+rows-start k s = record { count = omega arith; below = omega arith }
+
+module _ (k : ℕ) (s : List ℕ) (n at : ℕ) (w : Rows k s n at) where
+  pub rows-stop : (e : ℕ) → e ≡ itemEnd s at → e ≡ 0 → at < length s → n ≡ rowsOf k (bodies k (walk s))
+  unfolding rowsOf
+  rows-stop e p z l = let c = w .count in let q : rowsOf k (bodies k (walk (drop at s))) ≡ 0 = rw (bodies-stop k s at e p z l) in omega arith
+
+  pub rows-over : length s ≤ at → n ≡ rowsOf k (bodies k (walk s))
+  unfolding rowsOf
+  rows-over h = let c = w .count in let q : rowsOf k (bodies k (walk (drop at s))) ≡ 0 = rw (bodies-over k s at h) in omega arith
+
+  module _ (e : ℕ) (p : e ≡ itemEnd s at) (ne : e ≡ 0 → ⊥) where
+    pub rows-skip : (getD s at 0 ≡ k → ⊥) → Rows k s n e
+    rows-skip h =
+        let i = more s at e p ne in
+        let b = w .below in
+        record { count = w .count ∙ rw (bodies-skip k i h); below = omega arith }
+
+    module _ (r : ℕ) (q : r ≡ bodyRows k (take (e - (at + 4)) (drop (at + 4) s))) where
+      upto : n + r ≤ e
+      upto =
+          let i = more s at e p ne in
+          let b = w .below in
+          let l = body-length i in
+          let f = few k (bodyAt s at e) in
+          omega arith
+
+      pub rows-fits : length s < 2 ^ 64 → Fits w64 (n + r)
+      rows-fits h = let u = upto in let i = more s at e p ne in omega arith
+
+      pub rows-more : getD s at 0 ≡ k → Rows k s (n + r) e
+      unfolding rowsOf
+      rows-more h =
+          let i = more s at e p ne in
+          let c : rowsOf k (bodies k (walk s)) ≡ n + (r + rowsOf k (bodies k (walk (drop e s)))) = w .count ∙ rw (bodies-more k i h, q) in
+          record { count = omega arith; below = upto }
+
+pub ruleset rows-laws = (rows-start, rows-stop, rows-over, rows-skip, rows-fits, rows-more, walking)
