@@ -8,10 +8,10 @@ use native.Mathlib.Omega.{arith}
 use lib.ListN.{length}
 use Rattle.octets.specs.Put.{front, Placed}
 use Rattle.octets.proofs.PutLaws.{put-out, put-behind, put-front}
-use Rattle.writing.specs.Ten.{tenOf}
+use Rattle.writing.specs.Ten.{tens, tenOf}
 
 pub ten-length : (k : ℕ) → length (tenOf k) ≤ 10
-unfolding tenOf
+unfolding tenOf tens
 ten-length zero = omega arith
 ten-length (suc zero) = omega arith
 ten-length (suc (suc zero)) = omega arith
