@@ -113,7 +113,8 @@ static void heard(int line, const uint8_t *piece, size_t length, unsigned action
     before();
     got = feo_receive(&w.a, w.gather, FEO_BUFFER, piece, length, w.out, FEO_BUFFER, &w.r);
     if (want.a.state != 1 && want.a.state != 4 && want.a.deaf == 0) {
-        memcpy(want.gather + want.a.gathered, piece, used);
+        if (used != 0)
+            memcpy(want.gather + want.a.gathered, piece, used);
         want.a.gathered = action != 0 ? 0 : want.a.gathered + used;
     }
     if (n != 0)
@@ -661,7 +662,7 @@ static void contents(void)
     bad_confirm(4);
     calling.at[15] = 0;
     bad_confirm(4);
-    application.at[2] = '0';
+    application.at[4] = '0';
     bad_confirm(4);
     application.n = 0;
     bad_confirm(4);
