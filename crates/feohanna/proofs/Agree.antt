@@ -1,0 +1,82 @@
+-- Any two permitted answers agree, for each function, and so do the numbers and the buffers that it was lent, as it leaves them.
+-- Assumes nothing.
+use Prim.Native.Nat.{ℕ}
+use mathlib.Core.Path.{_≡_, refl, ap}
+use mathlib.Core.List.{[]}
+use denote.Ref.{now}
+use Rattle.laws.proofs.Agree.{agree, AgreesLent}
+use Rattle.reading.specs.declared.Associate.{Associate}
+use Rattle.feohanna.specs.Numbers.{Handed, handed, numbers, told}
+use Rattle.feohanna.specs.Fields.{associate, reject, abort, pdv}
+use Rattle.feohanna.proofs.calls.feo_raw_receive as receive
+use Rattle.feohanna.proofs.calls.feo_raw_event as event
+use Rattle.feohanna.proofs.calls.feo_raw_confirm as confirm
+use Rattle.feohanna.proofs.calls.feo_raw_accept as accept
+use Rattle.feohanna.proofs.calls.feo_raw_reject as reject
+use Rattle.feohanna.proofs.calls.feo_raw_send as send
+use Rattle.feohanna.proofs.numbers.feo_raw_fresh as fresh
+use Rattle.feohanna.proofs.readers.feo_raw_read_request as read-request
+use Rattle.feohanna.proofs.readers.feo_raw_read_accept as read-accept
+use Rattle.feohanna.proofs.readers.feo_raw_read_reject as read-reject
+use Rattle.feohanna.proofs.readers.feo_raw_read_abort as read-abort
+use Rattle.feohanna.proofs.readers.feo_raw_read_data as read-data
+use Rattle.feohanna.proofs.titles.feo_raw_title_known as title-known
+
+-- what is handed out beside the refusal
+abbrev rest : Handed → Handed
+rest h = handed (told 0 (h .answer .action) (h .answer .used) (h .answer .sent) (h .answer .shown)) (h .assoc) (h .gather) (h .out)
+
+abbrev others : Associate → Associate
+others f = associate 0 (f .version) (f .«application_at») (f .«application_len») (f .maximum) (f .records)
+
+pub receive-agrees : AgreesLent 13 receive.Kinds.ps receive.Kinds.r receive.Reads.Post
+    (λ κs x. handed (told 0 (now (x .1 .1 .1 .1 .1 .1 .1 .1 .1 .0)) (now (x .1 .1 .1 .1 .1 .1 .1 .1 .1 .1 .0)) (now (x .1 .1 .1 .1 .1 .1 .1 .1 .1 .1 .1 .0)) (now (x .1 .1 .1 .1 .1 .1 .1 .1 .1 .1 .1 .1 .0))) (numbers (now (x .0)) (now (x .1 .0)) (now (x .1 .1 .0)) (now (x .1 .1 .1 .0)) (now (x .1 .1 .1 .1 .0)) (now (x .1 .1 .1 .1 .1 .0))) (now (x .1 .1 .1 .1 .1 .1 .0)) (now (x .1 .1 .1 .1 .1 .1 .1 .1 .0)))
+receive-agrees κs args a b x y p q = (ap (λ h. h .answer .refusal) (agree p q), ap rest (agree p q))
+
+pub event-agrees : AgreesLent 12 event.Kinds.ps event.Kinds.r event.Reads.Post
+    (λ κs x. handed (told 0 (now (x .1 .1 .1 .1 .1 .1 .1 .1 .1 .0)) (now (x .1 .1 .1 .1 .1 .1 .1 .1 .1 .1 .0)) (now (x .1 .1 .1 .1 .1 .1 .1 .1 .1 .1 .1 .0)) (now (x .1 .1 .1 .1 .1 .1 .1 .1 .1 .1 .1 .1 .0))) (numbers (now (x .0)) (now (x .1 .0)) (now (x .1 .1 .0)) (now (x .1 .1 .1 .0)) (now (x .1 .1 .1 .1 .0)) (now (x .1 .1 .1 .1 .1 .0))) [] (now (x .1 .1 .1 .1 .1 .1 .1 .1 .0)))
+event-agrees κs args a b x y p q = (ap (λ h. h .answer .refusal) (agree p q), ap (λ h. handed (rest h .answer) (h .assoc) [] (h .out)) (agree p q))
+
+pub confirm-agrees : AgreesLent 16 confirm.Kinds.ps confirm.Kinds.r confirm.Reads.Post
+    (λ κs x. handed (told 0 (now (x .1 .1 .1 .1 .1 .1 .1 .1 .1 .1 .1 .1 .0)) (now (x .1 .1 .1 .1 .1 .1 .1 .1 .1 .1 .1 .1 .1 .0)) (now (x .1 .1 .1 .1 .1 .1 .1 .1 .1 .1 .1 .1 .1 .1 .0)) (now (x .1 .1 .1 .1 .1 .1 .1 .1 .1 .1 .1 .1 .1 .1 .1 .0))) (numbers (now (x .0)) (now (x .1 .0)) (now (x .1 .1 .0)) (now (x .1 .1 .1 .0)) (now (x .1 .1 .1 .1 .0)) (now (x .1 .1 .1 .1 .1 .0))) [] (now (x .1 .1 .1 .1 .1 .1 .1 .1 .1 .1 .1 .0)))
+confirm-agrees κs args a b x y p q = (ap (λ h. h .answer .refusal) (agree p q), ap (λ h. handed (rest h .answer) (h .assoc) [] (h .out)) (agree p q))
+
+pub accept-agrees : AgreesLent 15 accept.Kinds.ps accept.Kinds.r accept.Reads.Post
+    (λ κs x. handed (told 0 (now (x .1 .1 .1 .1 .1 .1 .1 .1 .1 .1 .1 .0)) (now (x .1 .1 .1 .1 .1 .1 .1 .1 .1 .1 .1 .1 .0)) (now (x .1 .1 .1 .1 .1 .1 .1 .1 .1 .1 .1 .1 .1 .0)) (now (x .1 .1 .1 .1 .1 .1 .1 .1 .1 .1 .1 .1 .1 .1 .0))) (numbers (now (x .0)) (now (x .1 .0)) (now (x .1 .1 .0)) (now (x .1 .1 .1 .0)) (now (x .1 .1 .1 .1 .0)) (now (x .1 .1 .1 .1 .1 .0))) [] (now (x .1 .1 .1 .1 .1 .1 .1 .1 .1 .1 .0)))
+accept-agrees κs args a b x y p q = (ap (λ h. h .answer .refusal) (agree p q), ap (λ h. handed (rest h .answer) (h .assoc) [] (h .out)) (agree p q))
+
+pub reject-agrees : AgreesLent 12 reject.Kinds.ps reject.Kinds.r reject.Reads.Post
+    (λ κs x. handed (told 0 (now (x .1 .1 .1 .1 .1 .1 .1 .1 .1 .1 .1 .0)) (now (x .1 .1 .1 .1 .1 .1 .1 .1 .1 .1 .1 .1 .0)) (now (x .1 .1 .1 .1 .1 .1 .1 .1 .1 .1 .1 .1 .1 .0)) (now (x .1 .1 .1 .1 .1 .1 .1 .1 .1 .1 .1 .1 .1 .1 .0))) (numbers (now (x .0)) (now (x .1 .0)) (now (x .1 .1 .0)) (now (x .1 .1 .1 .0)) (now (x .1 .1 .1 .1 .0)) (now (x .1 .1 .1 .1 .1 .0))) [] (now (x .1 .1 .1 .1 .1 .1 .1 .1 .1 .1 .0)))
+reject-agrees κs args a b x y p q = (ap (λ h. h .answer .refusal) (agree p q), ap (λ h. handed (rest h .answer) (h .assoc) [] (h .out)) (agree p q))
+
+pub send-agrees : AgreesLent 13 send.Kinds.ps send.Kinds.r send.Reads.Post
+    (λ κs x. handed (told 0 (now (x .1 .1 .1 .1 .1 .1 .1 .1 .1 .0)) (now (x .1 .1 .1 .1 .1 .1 .1 .1 .1 .1 .0)) (now (x .1 .1 .1 .1 .1 .1 .1 .1 .1 .1 .1 .0)) (now (x .1 .1 .1 .1 .1 .1 .1 .1 .1 .1 .1 .1 .0))) (numbers (now (x .0)) (now (x .1 .0)) (now (x .1 .1 .0)) (now (x .1 .1 .1 .0)) (now (x .1 .1 .1 .1 .0)) (now (x .1 .1 .1 .1 .1 .0))) [] (now (x .1 .1 .1 .1 .1 .1 .1 .1 .0)))
+send-agrees κs args a b x y p q = (ap (λ h. h .answer .refusal) (agree p q), ap (λ h. handed (rest h .answer) (h .assoc) [] (h .out)) (agree p q))
+
+pub fresh-agrees : AgreesLent 6 fresh.Kinds.ps fresh.Kinds.r fresh.Reads.Post
+    (λ κs x. numbers (now (x .0)) (now (x .1 .0)) (now (x .1 .1 .0)) (now (x .1 .1 .1 .0)) (now (x .1 .1 .1 .1 .0)) (now (x .1 .1 .1 .1 .1 .0)))
+fresh-agrees κs args a b x y p q = (refl, agree p q)
+
+pub read-request-agrees : AgreesLent 7 read-request.Kinds.ps read-request.Kinds.r read-request.Reads.Post
+    (λ κs x. (associate 0 (now (x .1 .1 .0)) (now (x .1 .1 .1 .0)) (now (x .1 .1 .1 .1 .0)) (now (x .1 .1 .1 .1 .1 .0)) (now (x .1 .1 .1 .1 .1 .1 .0)), now (x .1 .0)))
+read-request-agrees κs args a b x y p q = (ap (λ f. f .refusal) (agree (p .answer) (q .answer)), λ i. (others (agree (p .answer) (q .answer) i), agree (p .sheet) (q .sheet) i))
+
+pub read-accept-agrees : AgreesLent 7 read-accept.Kinds.ps read-accept.Kinds.r read-accept.Reads.Post
+    (λ κs x. (associate 0 (now (x .1 .1 .0)) (now (x .1 .1 .1 .0)) (now (x .1 .1 .1 .1 .0)) (now (x .1 .1 .1 .1 .1 .0)) (now (x .1 .1 .1 .1 .1 .1 .0)), now (x .1 .0)))
+read-accept-agrees κs args a b x y p q = (ap (λ f. f .refusal) (agree (p .answer) (q .answer)), λ i. (others (agree (p .answer) (q .answer) i), agree (p .sheet) (q .sheet) i))
+
+pub read-reject-agrees : AgreesLent 4 read-reject.Kinds.ps read-reject.Kinds.r read-reject.Reads.Post
+    (λ κs x. reject 0 (now (x .1 .0)) (now (x .1 .1 .0)) (now (x .1 .1 .1 .0)))
+read-reject-agrees κs args a b x y p q = (ap (λ f. f .refusal) (agree p q), ap (λ f. reject 0 (f .result) (f .source) (f .reason)) (agree p q))
+
+pub read-abort-agrees : AgreesLent 3 read-abort.Kinds.ps read-abort.Kinds.r read-abort.Reads.Post
+    (λ κs x. abort 0 (now (x .1 .0)) (now (x .1 .1 .0)))
+read-abort-agrees κs args a b x y p q = (ap (λ f. f .refusal) (agree p q), ap (λ f. abort 0 (f .source) (f .reason)) (agree p q))
+
+pub read-data-agrees : AgreesLent 5 read-data.Kinds.ps read-data.Kinds.r read-data.Reads.Post
+    (λ κs x. pdv 0 (now (x .1 .1 .0)) (now (x .1 .1 .1 .0)) (now (x .1 .1 .1 .1 .0)) (now (x .1 .1 .1 .1 .1 .0)))
+read-data-agrees κs args a b x y p q = (ap (λ f. f .refusal) (agree p q), ap (λ f. pdv 0 (f .id) (f .control) (f .start) (f .len)) (agree p q))
+
+pub title-known-agrees : AgreesLent 3 title-known.Kinds.ps title-known.Kinds.r title-known.Reads.Post
+    (λ κs x. now (x .1 .1 .0))
+title-known-agrees κs args a b x y p q = (agree (p .refused) (q .refused), agree (p .answer) (q .answer))

@@ -1,0 +1,3 @@
+mod NumbersLaws
+mod TitlesLaws
+pub mod Agree

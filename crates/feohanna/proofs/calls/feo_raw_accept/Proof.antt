@@ -1,0 +1,16 @@
+-- `feo_raw_accept` meets its contract.
+-- Assumes nothing.
+use borrow.Author.Needs.{needs}
+use Rattle.feohanna.proofs.NumbersLaws.{handing}
+use Rattle.feohanna.proofs.calls.feo_raw_accept.Statement.{statement}
+use Rattle.feohanna.proofs.calls.feo_raw_accept.Tie as tie
+
+pub feo-raw-accept-spec : {M : Type 1} → statement M
+feo-raw-accept-spec =
+    tie.close
+    (tie.spec
+    (λ c κs. search needs)  -- assoc-of-requires
+    (λ c κs. search needs)  -- accept-requires
+    (λ c κs. search needs)  -- hand-out-requires
+    (λ c. search needs)  -- same-length
+    (λ c. search handing))  -- returns

@@ -1,0 +1,16 @@
+-- `feo_raw_confirm` meets its contract.
+-- Assumes nothing.
+use borrow.Author.Needs.{needs}
+use Rattle.feohanna.proofs.NumbersLaws.{handing}
+use Rattle.feohanna.proofs.calls.feo_raw_confirm.Statement.{statement}
+use Rattle.feohanna.proofs.calls.feo_raw_confirm.Tie as tie
+
+pub feo-raw-confirm-spec : {M : Type 1} → statement M
+feo-raw-confirm-spec =
+    tie.close
+    (tie.spec
+    (λ c κs. search needs)  -- assoc-of-requires
+    (λ c κs. search needs)  -- confirm-requires
+    (λ c κs. search needs)  -- hand-out-requires
+    (λ c. search needs)  -- same-length
+    (λ c. search handing))  -- returns

@@ -1,0 +1,16 @@
+-- `feo_raw_reject` meets its contract.
+-- Assumes nothing.
+use borrow.Author.Needs.{needs}
+use Rattle.feohanna.proofs.NumbersLaws.{handing}
+use Rattle.feohanna.proofs.calls.feo_raw_reject.Statement.{statement}
+use Rattle.feohanna.proofs.calls.feo_raw_reject.Tie as tie
+
+pub feo-raw-reject-spec : {M : Type 1} → statement M
+feo-raw-reject-spec =
+    tie.close
+    (tie.spec
+    (λ c κs. search needs)  -- assoc-of-requires
+    (λ c κs. search needs)  -- reject-requires
+    (λ c κs. search needs)  -- hand-out-requires
+    (λ c. search needs)  -- same-length
+    (λ c. search handing))  -- returns

@@ -1,0 +1,16 @@
+-- `feo_raw_send` meets its contract.
+-- Assumes nothing.
+use borrow.Author.Needs.{needs}
+use Rattle.feohanna.proofs.NumbersLaws.{handing}
+use Rattle.feohanna.proofs.calls.feo_raw_send.Statement.{statement}
+use Rattle.feohanna.proofs.calls.feo_raw_send.Tie as tie
+
+pub feo-raw-send-spec : {M : Type 1} → statement M
+feo-raw-send-spec =
+    tie.close
+    (tie.spec
+    (λ c κs. search needs)  -- assoc-of-requires
+    (λ c κs. search needs)  -- send-requires
+    (λ c κs. search needs)  -- hand-out-requires
+    (λ c. search needs)  -- same-length
+    (λ c. search handing))  -- returns

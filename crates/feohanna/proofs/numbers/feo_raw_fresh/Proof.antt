@@ -1,0 +1,14 @@
+-- `feo_raw_fresh` meets its contract.
+-- Assumes nothing.
+use borrow.Author.Needs.{needs}
+use Rattle.feohanna.proofs.NumbersLaws.{freshly}
+use Rattle.feohanna.proofs.numbers.feo_raw_fresh.Statement.{statement}
+use Rattle.feohanna.proofs.numbers.feo_raw_fresh.Tie as tie
+
+pub feo-raw-fresh-spec : {M : Type 1} → statement M
+feo-raw-fresh-spec =
+    tie.close
+    (tie.spec
+    (λ c κs. search needs)  -- fresh-requires
+    (λ c κs. search needs)  -- store-requires
+    (λ c. search freshly))  -- returns

@@ -1,0 +1,19 @@
+-- The answers of the reading calls, from the numbers that are handed out one by one.
+use Prim.Native.Nat.{ℕ}
+use Rattle.reading.specs.declared.associate.Associate.{Associate}
+use Rattle.reading.specs.declared.values.RejectRead.{RejectRead}
+use Rattle.reading.specs.declared.values.AbortRead.{AbortRead}
+use Rattle.reading.specs.declared.data.DataRead.{DataRead}
+
+abbrev pub associate : ℕ → ℕ → ℕ → ℕ → ℕ → ℕ → Associate
+associate refusal version at len maximum records =
+    record { refusal = refusal; version = version; «application_at» = at; «application_len» = len; maximum = maximum; records = records }
+
+abbrev pub reject : ℕ → ℕ → ℕ → ℕ → RejectRead
+reject refusal result source reason = record { refusal = refusal; result = result; source = source; reason = reason }
+
+abbrev pub abort : ℕ → ℕ → ℕ → AbortRead
+abort refusal source reason = record { refusal = refusal; source = source; reason = reason }
+
+abbrev pub pdv : ℕ → ℕ → ℕ → ℕ → ℕ → DataRead
+pdv refusal id control start len = record { refusal = refusal; id = id; control = control; start = start; len = len }

@@ -1,0 +1,96 @@
+// The fields of each kind of PDU. Where a read is refused the numbers handed out are 0.
+ghost use mathlib.Core.Path.{_≡_};
+ghost use Rattle.reading.specs.Associate.{Read};
+ghost use Rattle.reading.specs.Values.{rejectOf, abortOf};
+ghost use Rattle.reading.specs.Data.{dataOf};
+ghost use Rattle.feohanna.specs.Fields.{associate, reject, abort, pdv};
+
+#[no_mangle]
+pub extern "C" fn feo_raw_read_request(
+    pdu: &[u8],
+    sheet: &mut [u8],
+    version: &mut u16,
+    application_at: &mut usize,
+    application_len: &mut usize,
+    maximum: &mut u32,
+    records: &mut usize,
+) -> u8
+    ensures { λ r. ⌜ Read 1 (now (pdu .entry)) (now (sheet .entry))
+        (associate r (now (version .exit)) (now («application_at» .exit)) (now («application_len» .exit)) (now (maximum .exit)) (now (records .exit))) (now (sheet .exit)) ⌝ }
+{
+    let f = reading::read_request(pdu, sheet);
+    *version = f.version;
+    *application_at = f.application_at;
+    *application_len = f.application_len;
+    *maximum = f.maximum;
+    *records = f.records;
+    f.refusal
+}
+
+#[no_mangle]
+pub extern "C" fn feo_raw_read_accept(
+    pdu: &[u8],
+    sheet: &mut [u8],
+    version: &mut u16,
+    application_at: &mut usize,
+    application_len: &mut usize,
+    maximum: &mut u32,
+    records: &mut usize,
+) -> u8
+    ensures { λ r. ⌜ Read 2 (now (pdu .entry)) (now (sheet .entry))
+        (associate r (now (version .exit)) (now («application_at» .exit)) (now («application_len» .exit)) (now (maximum .exit)) (now (records .exit))) (now (sheet .exit)) ⌝ }
+{
+    let f = reading::read_accept(pdu, sheet);
+    *version = f.version;
+    *application_at = f.application_at;
+    *application_len = f.application_len;
+    *maximum = f.maximum;
+    *records = f.records;
+    f.refusal
+}
+
+#[no_mangle]
+pub extern "C" fn feo_raw_read_reject(
+    pdu: &[u8],
+    result: &mut u8,
+    source: &mut u8,
+    reason: &mut u8,
+) -> u8
+    ensures { λ r. ⌜ reject r (now (result .exit)) (now (source .exit)) (now (reason .exit)) ≡ rejectOf (now (pdu .entry)) ⌝ }
+{
+    let f = reading::read_reject(pdu);
+    *result = f.result;
+    *source = f.source;
+    *reason = f.reason;
+    f.refusal
+}
+
+#[no_mangle]
+pub extern "C" fn feo_raw_read_abort(pdu: &[u8], source: &mut u8, reason: &mut u8) -> u8
+    ensures { λ r. ⌜ abort r (now (source .exit)) (now (reason .exit)) ≡ abortOf (now (pdu .entry)) ⌝ }
+{
+    let f = reading::read_abort(pdu);
+    *source = f.source;
+    *reason = f.reason;
+    f.refusal
+}
+
+// The PDV of this number, from 0.
+#[no_mangle]
+pub extern "C" fn feo_raw_read_data(
+    pdu: &[u8],
+    number: usize,
+    id: &mut u8,
+    control: &mut u8,
+    start: &mut usize,
+    length: &mut usize,
+) -> u8
+    ensures { λ r. ⌜ pdv r (now (id .exit)) (now (control .exit)) (now (start .exit)) (now (length .exit)) ≡ dataOf (now (pdu .entry)) number ⌝ }
+{
+    let f = reading::read_data(pdu, number);
+    *id = f.id;
+    *control = f.control;
+    *start = f.start;
+    *length = f.len;
+    f.refusal
+}

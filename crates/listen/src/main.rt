@@ -1,0 +1,182 @@
+// The listen program: gives transport indication, feeds standard input to its end in pieces, then gives closed. Each action is a line: its name, the state after
+// it and the bytes sent.
+use association::Assoc;
+use association::Told;
+use libc::STDIN_FILENO;
+use libc::STDOUT_FILENO;
+ghost use mathlib.Core.Path.{_≡_};
+ghost use Prim.Native.Nat.{_<_};
+
+// What of the piece is not used yet, from `at` to `end`; whether the input has ended; how many calls may still be made.
+struct Window {
+    at: usize,
+    end: usize,
+    ended: bool,
+    turns: u64,
+}
+
+// An action's name in Tables 9-6 to 9-9: its family and its number there.
+fn print_name(action: u8) {
+    if action <= 8 {
+        io::write_all(STDOUT_FILENO, b"AE-");
+        io::print_decimal(STDOUT_FILENO, action as u64);
+        return;
+    }
+    if action <= 10 {
+        io::write_all(STDOUT_FILENO, b"DT-");
+        io::print_decimal(STDOUT_FILENO, (action - 8) as u64);
+        return;
+    }
+    if action <= 20 {
+        io::write_all(STDOUT_FILENO, b"AR-");
+        io::print_decimal(STDOUT_FILENO, (action - 10) as u64);
+        return;
+    }
+    io::write_all(STDOUT_FILENO, b"AA-");
+    io::print_decimal(STDOUT_FILENO, (action - 20) as u64);
+}
+
+// The line of a call's action. A call without one, a refused one among them, prints nothing.
+fn print_line(r: Told, state: u8) {
+    let action = r.action;
+    if action == 0 {
+        return;
+    }
+    print_name(action);
+    io::write_all(STDOUT_FILENO, b" ");
+    io::print_decimal(STDOUT_FILENO, state as u64);
+    io::write_all(STDOUT_FILENO, b" ");
+    io::print_decimal(STDOUT_FILENO, r.sent as u64);
+    io::write_all(STDOUT_FILENO, b"\n");
+}
+
+// Before the first read.
+fn unread() -> Window {
+    Window {
+        at: 0,
+        end: 0,
+        ended: false,
+        turns: u64::MAX,
+    }
+}
+
+// Reads the next piece where all of the last one is used. A read that fails ends the input.
+fn fill(w: Window, piece: &mut [u8]) -> Window
+    ensures { λ r. ⌜ r .turns ≡ w .turns ⌝ }
+{
+    let at = w.at;
+    let end = w.end;
+    let turns = w.turns;
+    if at < end {
+        return w;
+    }
+    let got = libc::read(STDIN_FILENO, piece);
+    if got <= 0 {
+        return Window {
+            at: 0,
+            end: 0,
+            ended: true,
+            turns,
+        };
+    }
+    let n = io::count(got, piece);
+    Window {
+        at: 0,
+        end: n,
+        ended: false,
+        turns,
+    }
+}
+
+// What is offered to the next call.
+fn offered(piece: &[u8], w: Window) -> &[u8] {
+    let at = w.at;
+    let end = w.end;
+    if end < at {
+        return &piece[..0];
+    }
+    if piece.len() < end {
+        return &piece[..0];
+    }
+    &piece[at..end]
+}
+
+// The window after a call. One that uses none of its bytes, which none does, would lose them.
+fn past(w: Window, used: usize) -> Window
+    requires { ⌜ 0 < w .turns ⌝ }
+    ensures { λ r. ⌜ r .turns < w .turns ⌝ }
+{
+    let at = w.at;
+    let end = w.end;
+    let ended = w.ended;
+    let turns = w.turns;
+    if ended {
+        return Window {
+            at: 0,
+            end: 0,
+            ended,
+            turns: 0,
+        };
+    }
+    if used == 0 {
+        return Window {
+            at: end,
+            end,
+            ended,
+            turns: turns - 1,
+        };
+    }
+    if end < at {
+        return Window {
+            at: end,
+            end,
+            ended,
+            turns: turns - 1,
+        };
+    }
+    if end - at < used {
+        return Window {
+            at: end,
+            end,
+            ended,
+            turns: turns - 1,
+        };
+    }
+    Window {
+        at: at + used,
+        end,
+        ended,
+        turns: turns - 1,
+    }
+}
+
+// Offers the input, piece by piece, to its end. The loop lends its one record to each call, and reads it again afterwards.
+fn listen(a: Assoc, gather: &mut [u8], piece: &mut [u8], out: &mut [u8]) -> Assoc {
+    let mut b = a;
+    let mut w = unread();
+    while 0 < w.turns {
+        let f = fill(w, piece);
+        let part = offered(piece, f);
+        let r = lent::receive_lent(&mut b, gather, part, out);
+        print_line(r, b.state);
+        w = past(f, r.used);
+    }
+    b
+}
+
+// Gives a local event. The record is lent for it, and read again.
+fn give(a: Assoc, number: u8, gather: &[u8], out: &mut [u8]) -> Assoc {
+    let mut b = a;
+    let r = lent::event_lent(&mut b, number, gather, out);
+    print_line(r, b.state);
+    b
+}
+
+fn main() {
+    let mut gather = [0u8; 16390];
+    let mut out = [0u8; 16390];
+    let mut piece = [0u8; 4096];
+    let a = give(association::fresh(), 5, &gather, &mut out);
+    let b = listen(a, &mut gather, &mut piece, &mut out);
+    give(b, 17, &gather, &mut out);
+}

@@ -1,0 +1,159 @@
+/* Bytes of PDUs, items and sheets, as document 01 describes them. */
+#ifndef BUILD_H
+#define BUILD_H
+
+#include <stdint.h>
+#include <string.h>
+
+struct bytes {
+    size_t n;
+    uint8_t at[40000];
+};
+
+static inline void add(struct bytes *b, const void *from, size_t n)
+{
+    memcpy(b->at + b->n, from, n);
+    b->n += n;
+}
+
+static inline void add_byte(struct bytes *b, unsigned v)
+{
+    b->at[b->n++] = (uint8_t)v;
+}
+
+static inline void add_two(struct bytes *b, size_t v)
+{
+    add_byte(b, (unsigned)(v >> 8 & 255));
+    add_byte(b, (unsigned)(v & 255));
+}
+
+static inline void add_four(struct bytes *b, size_t v)
+{
+    add_two(b, v >> 16 & 65535);
+    add_two(b, v & 65535);
+}
+
+/* An item: type, reserved, two-byte length, body. */
+static inline void add_item(struct bytes *b, unsigned type, const void *body, size_t n)
+{
+    add_byte(b, type);
+    add_byte(b, 0);
+    add_two(b, n);
+    add(b, body, n);
+}
+
+static inline void add_name(struct bytes *b, unsigned type, const char *name)
+{
+    add_item(b, type, name, strlen(name));
+}
+
+/* A PDU of this type: its header goes before what is in `body`. */
+static inline void whole(struct bytes *pdu, unsigned type, const struct bytes *body)
+{
+    pdu->n = 0;
+    add_byte(pdu, type);
+    add_byte(pdu, 0);
+    add_four(pdu, body->n);
+    add(pdu, body->at, body->n);
+}
+
+/* A PDU of length 4. */
+static inline void ten(struct bytes *pdu, unsigned type, unsigned a, unsigned b, unsigned c, unsigned d)
+{
+    pdu->n = 0;
+    add_byte(pdu, type);
+    add_byte(pdu, 0);
+    add_four(pdu, 4);
+    add_byte(pdu, a);
+    add_byte(pdu, b);
+    add_byte(pdu, c);
+    add_byte(pdu, d);
+}
+
+#define APPLICATION "1.2.840.10008.3.1.1.1"
+#define ECHO_CLASS "1.2.840.10008.1.1"
+#define IMPLICIT "1.2.840.10008.1.2"
+
+/* Version, titles and reserved bytes of an RQ or AC. */
+static inline void add_fixed(struct bytes *b, unsigned version)
+{
+    static const uint8_t zero[32] = { 0 };
+    add_two(b, version);
+    add_two(b, 0);
+    add(b, "STORE-EQUINE    ", 16);
+    add(b, "NIGHT-SCANNER   ", 16);
+    add(b, zero, 32);
+}
+
+/* User information: 51H with this maximum. */
+static inline void add_user(struct bytes *b, size_t maximum)
+{
+    struct bytes four, user;
+    four.n = user.n = 0;
+    add_four(&four, maximum);
+    add_item(&user, 0x51, four.at, 4);
+    add_item(b, 0x50, user.at, user.n);
+}
+
+/* An RQ with one context, ID 1, of these three names. */
+static inline void request(struct bytes *pdu, unsigned version, const char *application, const char *abstract, const char *transfer)
+{
+    struct bytes b, context;
+    b.n = context.n = 0;
+    add_fixed(&b, version);
+    add_name(&b, 0x10, application);
+    add_four(&context, 0x01000000);
+    add_name(&context, 0x30, abstract);
+    add_name(&context, 0x40, transfer);
+    add_item(&b, 0x20, context.at, context.n);
+    add_user(&b, 16384);
+    whole(pdu, 1, &b);
+}
+
+/* An AC with one context, ID 1, of this result. */
+static inline void acceptance(struct bytes *pdu, unsigned version, unsigned result, size_t maximum)
+{
+    struct bytes b, context;
+    b.n = context.n = 0;
+    add_fixed(&b, version);
+    add_name(&b, 0x10, APPLICATION);
+    add_four(&context, 0x01000000 | (size_t)result << 8);
+    add_name(&context, 0x40, IMPLICIT);
+    add_item(&b, 0x21, context.at, context.n);
+    add_user(&b, maximum);
+    whole(pdu, 2, &b);
+}
+
+/* A PDV item: four-byte length, ID, control byte, fragment. */
+static inline void add_pdv(struct bytes *b, unsigned id, unsigned control, const void *fragment, size_t n)
+{
+    add_four(b, n + 2);
+    add_byte(b, id);
+    add_byte(b, control);
+    add(b, fragment, n);
+}
+
+/* A P-DATA-TF with one PDV of n bytes. */
+static inline void data(struct bytes *pdu, unsigned id, unsigned control, size_t n)
+{
+    static const uint8_t fragment[16384] = { 0xDA, 0x7A };
+    struct bytes b;
+    b.n = 0;
+    add_pdv(&b, id, control, fragment, n);
+    whole(pdu, 4, &b);
+}
+
+/* A record of a sheet: 132 bytes, the unused ones zero. */
+static inline void add_record(struct bytes *b, unsigned id, unsigned result, const char *abstract, const char *transfer)
+{
+    memset(b->at + b->n, 0, 132);
+    b->at[b->n] = (uint8_t)id;
+    b->at[b->n + 1] = (uint8_t)result;
+    b->at[b->n + 2] = (uint8_t)strlen(abstract);
+    b->at[b->n + 3] = (uint8_t)strlen(transfer);
+    memcpy(b->at + b->n + 4, abstract, strlen(abstract));
+    memcpy(b->at + b->n + 68, transfer, strlen(transfer));
+    b->n += 132;
+}
+
+#endif

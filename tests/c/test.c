@@ -1,0 +1,959 @@
+/*
+ * Calls every function of include/feohanna.h, good and refused. Each call runs in a world with guard bytes, of which a copy says what
+ * it is to become: whatever a call changes beyond that shows. Expected values are document 01's. In the common part of C99 and C++.
+ */
+#include <stdio.h>
+#include <stdlib.h>
+
+#include "build.h"
+#include "feohanna.h"
+
+static long checks;
+
+static void check(int line, int holds, const char *what)
+{
+    checks++;
+    if (holds)
+        return;
+    printf("test.c:%d: not so: %s\n", line, what);
+    exit(1);
+}
+
+#define CHECK(x) check(__LINE__, (x) != 0, #x)
+
+/* ---- the world */
+
+struct world {
+    uint8_t guard0[64];
+    struct feo_assoc a;
+    uint8_t guard1[64];
+    struct feo_answer r;
+    uint8_t guard2[64];
+    uint8_t gather[FEO_BUFFER];
+    uint8_t guard3[64];
+    uint8_t out[FEO_BUFFER];
+    uint8_t guard4[64];
+};
+
+static struct world w, want;
+
+static int timed(unsigned state)
+{
+    return state == 2 || state == 13;
+}
+
+/* A sound association in this state, all else filled with a pattern. */
+static void given(unsigned state)
+{
+    size_t i;
+    uint8_t *p = (uint8_t *)&w;
+    for (i = 0; i < sizeof w; i++)
+        p[i] = (uint8_t)(i * 37 + state);
+    feo_fresh(&w.a);
+    w.a.state = (uint8_t)state;
+    w.a.artim = (uint8_t)timed(state);
+}
+
+static void before(void)
+{
+    memcpy(&want, &w, sizeof w);
+}
+
+static void told(int line, uint8_t got, unsigned refusal, unsigned action, size_t used, size_t sent, size_t shown)
+{
+    want.r.refusal = (uint8_t)refusal;
+    want.r.action = (uint8_t)action;
+    want.r.used = used;
+    want.r.sent = sent;
+    want.r.shown = shown;
+    check(line, got == refusal, "the refusal that is returned");
+    check(line, w.r.refusal == refusal, "refusal");
+    check(line, w.r.action == action, "action");
+    check(line, w.r.used == used, "used");
+    check(line, w.r.sent == sent, "sent");
+    check(line, w.r.shown == shown, "shown");
+    check(line, memcmp(w.out, want.out, FEO_BUFFER) == 0, "out");
+    check(line, memcmp(w.gather, want.gather, FEO_BUFFER) == 0, "gather");
+    check(line, w.a.state == want.a.state, "state");
+    check(line, memcmp(&w, &want, sizeof w) == 0, "the world, all of it");
+}
+
+/* Nothing changes, and the numbers handed out are 0. */
+#define REFUSED(call, refusal) (before(), told(__LINE__, (call), (refusal), 0, 0, 0, 0))
+
+/* The association enters a state; marks are stored as 0 or 1. */
+static void enters(unsigned state)
+{
+    want.a.state = (uint8_t)state;
+    want.a.deaf = want.a.deaf != 0;
+    want.a.requestor = want.a.requestor != 0;
+    want.a.artim = (uint8_t)timed(state);
+    if (state == 1) {
+        want.a.gathered = 0;
+        want.a.deaf = want.a.requestor = 0;
+        want.a.peer_max = 0;
+    }
+}
+
+/* A local event is answered: `want` is what was before but for what is said here. */
+static void local(int line, uint8_t got, unsigned action, unsigned state, const void *sent, size_t n)
+{
+    enters(state);
+    if (n != 0)
+        memcpy(want.out, sent, n);
+    told(line, got, 0, action, 0, n, 0);
+}
+
+#define LOCAL(call, action, state, sent, count) (before(), local(__LINE__, (call), (action), (state), (sent), (count)))
+
+/* Bytes are received. */
+static void heard(int line, const uint8_t *piece, size_t length, unsigned action, unsigned state, size_t used, const void *sent, size_t n, size_t shown)
+{
+    uint8_t got;
+    before();
+    got = feo_receive(&w.a, w.gather, FEO_BUFFER, piece, length, w.out, FEO_BUFFER, &w.r);
+    if (want.a.state != 1 && want.a.state != 4 && want.a.deaf == 0) {
+        if (used != 0)
+            memcpy(want.gather + want.a.gathered, piece, used);
+        want.a.gathered = action != 0 ? 0 : want.a.gathered + used;
+    }
+    if (n != 0)
+        memcpy(want.out, sent, n);
+    want.a.peer_max = w.a.peer_max;
+    if (used == 6 && action != 0 && length >= 6 && piece[4] == 0x40 && piece[5] == 1)
+        want.a.deaf = 1;
+    enters(state);
+    if (state == 1)
+        check(line, w.a.peer_max == 0, "peer maximum in Sta1");
+    told(line, got, 0, action, used, n, shown);
+}
+
+#define HEARD(pdu, action, state, sent, count, shown) \
+    heard(__LINE__, (pdu).at, (pdu).n, (action), (state), (pdu).n, (sent), (count), (shown))
+
+/* ---- what is sent in ten bytes */
+
+static const uint8_t ABORT_USER[] = { 7, 0, 0, 0, 0, 4, 0, 0, 0, 0 };
+static const uint8_t ABORT_UNRECOGNIZED[] = { 7, 0, 0, 0, 0, 4, 0, 0, 2, 1 };
+static const uint8_t ABORT_UNEXPECTED[] = { 7, 0, 0, 0, 0, 4, 0, 0, 2, 2 };
+static const uint8_t ABORT_INVALID[] = { 7, 0, 0, 0, 0, 4, 0, 0, 2, 6 };
+static const uint8_t REJECT_VERSION[] = { 3, 0, 0, 0, 0, 4, 0, 1, 2, 2 };
+static const uint8_t RELEASE_RQ[] = { 5, 0, 0, 0, 0, 4, 0, 0, 0, 0 };
+static const uint8_t RELEASE_RP[] = { 6, 0, 0, 0, 0, 4, 0, 0, 0, 0 };
+
+/* ---- the calls with the world's buffers */
+
+static uint8_t event(unsigned number, size_t gather_len, size_t out_len)
+{
+    return feo_event(&w.a, (uint8_t)number, w.gather, gather_len, w.out, out_len, &w.r);
+}
+
+static struct bytes called, calling, application, proposal, echoed, answers, items;
+static unsigned result, source, reason;
+
+static uint8_t confirm(size_t gather_len, size_t out_len)
+{
+    return feo_confirm(
+        &w.a, called.at, called.n, calling.at, calling.n, application.at, application.n, proposal.at, proposal.n,
+        w.gather, gather_len, w.out, out_len, &w.r);
+}
+
+static uint8_t accept_it(size_t gather_len, size_t out_len)
+{
+    return feo_accept(
+        &w.a, echoed.at, echoed.n, application.at, application.n, answers.at, answers.n, w.gather, gather_len, w.out, out_len, &w.r);
+}
+
+static uint8_t reject(size_t gather_len, size_t out_len)
+{
+    return feo_reject(&w.a, (uint8_t)result, (uint8_t)source, (uint8_t)reason, w.gather, gather_len, w.out, out_len, &w.r);
+}
+
+static uint8_t send_it(size_t gather_len, size_t out_len)
+{
+    return feo_send(&w.a, items.at, items.n, w.gather, gather_len, w.out, out_len, &w.r);
+}
+
+static uint8_t release(size_t gather_len, size_t out_len)
+{
+    return event(FEO_RELEASE_REQUEST, gather_len, out_len);
+}
+
+/* Contents that are good. */
+static void good_contents(void)
+{
+    size_t i;
+    called.n = calling.n = application.n = proposal.n = echoed.n = answers.n = items.n = 0;
+    add(&called, "STORE-EQUINE    ", 16);
+    add(&calling, "NIGHT-SCANNER   ", 16);
+    add(&application, APPLICATION, strlen(APPLICATION));
+    add_record(&proposal, 1, 0, ECHO_CLASS, IMPLICIT);
+    for (i = 0; i < 64; i++)
+        add_byte(&echoed, (unsigned)(i * 5 + 200));
+    add_record(&answers, 1, 0, "", IMPLICIT);
+    add_pdv(&items, 1, 3, "ab", 2);
+    result = 1;
+    source = 1;
+    reason = 7;
+}
+
+/* ---- Table 9-10 of PS3.8, and the next states of Tables 9-6 to 9-9 */
+
+static const char *const table[19] = {
+    /*       Sta1 Sta2 Sta3 Sta4 Sta5 Sta6 Sta7 Sta8 Sta9 Sta10 Sta11 Sta12 Sta13 */
+    "AE-1 .    .    .    .    .    .    .    .    .     .    .    .   ",
+    ".    .    .    AE-2 .    .    .    .    .    .     .    .    .   ",
+    ".    AA-1 AA-8 .    AE-3 AA-8 AA-8 AA-8 AA-8 AA-8  AA-8 AA-8 AA-6",
+    ".    AA-1 AA-8 .    AE-4 AA-8 AA-8 AA-8 AA-8 AA-8  AA-8 AA-8 AA-6",
+    "AE-5 .    .    .    .    .    .    .    .    .     .    .    .   ",
+    ".    AE-6 AA-8 .    AA-8 AA-8 AA-8 AA-8 AA-8 AA-8  AA-8 AA-8 AA-7",
+    ".    .    AE-7 .    .    .    .    .    .    .     .    .    .   ",
+    ".    .    AE-8 .    .    .    .    .    .    .     .    .    .   ",
+    ".    .    .    .    .    DT-1 .    AR-7 .    .     .    .    .   ",
+    ".    AA-1 AA-8 .    AA-8 DT-2 AR-6 AA-8 AA-8 AA-8  AA-8 AA-8 AA-6",
+    ".    .    .    .    .    AR-1 .    .    .    .     .    .    .   ",
+    ".    AA-1 AA-8 .    AA-8 AR-2 AR-8 AA-8 AA-8 AA-8  AA-8 AA-8 AA-6",
+    ".    AA-1 AA-8 .    AA-8 AA-8 AR-3 AA-8 AA-8 AR-10 AR-3 AA-8 AA-6",
+    ".    .    .    .    .    .    .    AR-4 AR-9 .     .    AR-4 .   ",
+    ".    .    AA-1 AA-2 AA-1 AA-1 AA-1 AA-1 AA-1 AA-1  AA-1 AA-1 .   ",
+    ".    AA-2 AA-3 .    AA-3 AA-3 AA-3 AA-3 AA-3 AA-3  AA-3 AA-3 AA-2",
+    ".    AA-5 AA-4 AA-4 AA-4 AA-4 AA-4 AA-4 AA-4 AA-4  AA-4 AA-4 AR-5",
+    ".    AA-2 .    .    .    .    .    .    .    .     .    .    AA-2",
+    ".    AA-1 AA-8 .    AA-8 AA-8 AA-8 AA-8 AA-8 AA-8  AA-8 AA-8 AA-7"
+};
+
+static unsigned cell(unsigned number, unsigned state)
+{
+    const char *p = table[number - 1];
+    size_t n;
+    unsigned action;
+    for (;; p += n, p += strspn(p, " ")) {
+        n = strcspn(p, " ");
+        if (--state == 0)
+            break;
+    }
+    for (action = 1; action < 29; action++)
+        if (strlen(feo_action_name((uint8_t)action)) == n && memcmp(feo_action_name((uint8_t)action), p, n) == 0)
+            return action;
+    return 0;
+}
+
+static unsigned next_state(unsigned action, int requestor)
+{
+    static const uint8_t next[29] = { 0, 4, 5, 6, 1, 2, 3, 6, 13, 6, 6, 7, 8, 1, 13, 1, 7, 8, 10, 11, 12, 13, 1, 1, 1, 1, 13, 13, 13 };
+    return action == FEO_AR_8 && requestor ? 9 : next[action];
+}
+
+/* ---- the tests */
+
+static void header(void)
+{
+    static const struct feo_assoc fresh = FEO_FRESH;
+    struct feo_assoc a;
+    size_t i;
+    uint8_t *p = (uint8_t *)&a;
+    for (i = 0; i < sizeof a; i++)
+        p[i] = 0xEE;
+    feo_fresh(&a);
+    CHECK(a.state == 1 && a.gathered == 0 && a.deaf == 0 && a.artim == 0 && a.requestor == 0 && a.peer_max == 0);
+    CHECK(fresh.state == 1 && fresh.gathered == 0 && fresh.deaf == 0 && fresh.artim == 0 && fresh.requestor == 0 && fresh.peer_max == 0);
+    CHECK(FEO_BUFFER == 16390 && FEO_CALLED_AT == 10 && FEO_CALLING_AT == 26 && FEO_TITLE_LEN == 16);
+    CHECK(FEO_ECHOED_AT == 10 && FEO_ECHOED_LEN == 64);
+    CHECK(FEO_ASSOCIATE_REQUEST == 1 && FEO_TRANSPORT_INDICATION == 5 && FEO_RELEASE_REQUEST == 11 && FEO_RELEASE_RESPONSE == 14);
+    CHECK(FEO_ABORT_REQUEST == 15 && FEO_TRANSPORT_CLOSED == 17 && FEO_ARTIM_EXPIRED == 18 && FEO_INVALID_PDU == 19);
+    CHECK(FEO_AE_8 == 8 && FEO_DT_1 == 9 && FEO_AR_1 == 11 && FEO_AR_10 == 20 && FEO_AA_1 == 21 && FEO_AA_8 == 28);
+    CHECK(strcmp(feo_action_name(FEO_AE_6), "AE-6") == 0 && strcmp(feo_action_name(FEO_AR_10), "AR-10") == 0);
+    CHECK(strcmp(feo_action_name(FEO_AA_8), "AA-8") == 0 && strcmp(feo_action_name(0), "") == 0 && strcmp(feo_action_name(29), "?") == 0);
+    CHECK(strcmp(feo_refusal_name(1), "blank cell of Table 9-10") == 0 && strcmp(feo_refusal_name(7), "no whole valid PDU of this kind") == 0);
+    CHECK(strcmp(feo_refusal_name(0), "") == 0 && strcmp(feo_refusal_name(8), "?") == 0);
+}
+
+/* Cases 1 and 2: Sta6, an unknown type of length 16,384 at byte 16,390; of length 16,385 at byte 6, deaf. */
+static void cases_1_2(void)
+{
+    static struct bytes pdu;
+    size_t at;
+    pdu.n = 0;
+    add_four(&pdu, 0x08000000);
+    add_two(&pdu, 16384);
+    memset(pdu.at + 6, 0xAB, 16384);
+    pdu.n = 16390;
+    given(6);
+    HEARD(pdu, FEO_AA_8, 13, ABORT_UNRECOGNIZED, 10, 0);
+    given(6);
+    for (at = 0; at < 16389; at++)
+        heard(__LINE__, pdu.at + at, 1, 0, 6, 1, 0, 0, 0);
+    heard(__LINE__, pdu.at + at, 1, FEO_AA_8, 13, 1, ABORT_UNRECOGNIZED, 10, 0);
+
+    pdu.at[5] = 1;
+    given(6);
+    heard(__LINE__, pdu.at, pdu.n, FEO_AA_8, 13, 6, ABORT_INVALID, 10, 0);
+    CHECK(w.a.deaf == 1);
+    heard(__LINE__, pdu.at, pdu.n, 0, 13, pdu.n, 0, 0, 0);
+    LOCAL(event(FEO_TRANSPORT_CLOSED, 0, 0), FEO_AR_5, 1, 0, 0);
+    CHECK(w.a.deaf == 0);
+}
+
+/* Case 3: the RQ has PDU-length 155 and 161 bytes, its AC 134 and 140; both read back. */
+static void case_3(void)
+{
+    static struct bytes rq, ac;
+    static uint8_t sheet[132 + 64];
+    struct feo_associate f;
+    good_contents();
+    request(&rq, 1, APPLICATION, ECHO_CLASS, IMPLICIT);
+    CHECK(rq.n == 161 && rq.at[5] == 155);
+    given(4);
+    w.a.requestor = 1;
+    LOCAL(confirm(FEO_BUFFER, FEO_BUFFER), FEO_AE_2, 5, rq.at, 161);
+
+    acceptance(&ac, 1, 0, 16384);
+    memcpy(ac.at + 10, echoed.at, 64);
+    CHECK(ac.n == 140 && ac.at[5] == 134);
+    given(3);
+    LOCAL(accept_it(FEO_BUFFER, FEO_BUFFER), FEO_AE_7, 6, ac.at, 140);
+
+    CHECK(feo_read_request(rq.at, rq.n, sheet, 132, &f) == 0 && f.records == 1 && memcmp(sheet, proposal.at, 132) == 0);
+    CHECK(feo_read_accept(ac.at, ac.n, sheet, 132, &f) == 0 && f.records == 1 && memcmp(sheet, answers.at, 132) == 0);
+}
+
+/* Case 4, and the title check's refusals. */
+static void case_4_titles(void)
+{
+    static const char own[] = "STORE-EXOTIC     STORE-EQUINE   ";
+    static const char nine[] =
+        "A               B               C               D               E               F               G               H               I               ";
+    const uint8_t *o = (const uint8_t *)own, *n = (const uint8_t *)nine;
+    uint8_t known = 9;
+    CHECK(feo_title_known(o + 16, 16, (const uint8_t *)"STORE-EQUINE    ", 16, &known) == 0 && known == 1);
+    CHECK(feo_title_known(o, 16, (const uint8_t *)"STORE-EQUINE    ", 16, &known) == 0 && known == 0);
+    CHECK(feo_title_known(o, 32, (const uint8_t *)"   STORE-EQUINE ", 16, &known) == 0 && known == 1);
+    CHECK(feo_title_known(o, 32, (const uint8_t *)"store-equine    ", 16, &known) == 0 && known == 0);
+    known = 9;
+    CHECK(feo_title_known(NULL, 0, (const uint8_t *)"STORE-EQUINE    ", 16, &known) == 0 && known == 0);
+    CHECK(feo_title_known(o, 32, (const uint8_t *)"                ", 16, &known) == 0 && known == 0);
+    CHECK(feo_title_known(n, 128, n + 112, 16, &known) == 0 && known == 1);
+    known = 9;
+    CHECK(feo_title_known(n, 144, n, 16, &known) == 4 && known == 0);
+    known = 9;
+    CHECK(feo_title_known(n, 31, n, 16, &known) == 4 && known == 0);
+    known = 9;
+    CHECK(feo_title_known(n, 32, n, 15, &known) == 4 && known == 0);
+    known = 9;
+    CHECK(feo_title_known(n, 32, NULL, 0, &known) == 4 && known == 0);
+    known = 9;
+    CHECK(feo_title_known((const uint8_t *)"A               BACK\\SLASH      ", 32, n, 16, &known) == 4 && known == 0);
+}
+
+static void cases_5_to_9(void)
+{
+    static struct bytes pdu;
+    uint8_t id = 9, control = 9, from = 9, why = 9;
+    size_t start = 9, length = 9;
+    /* 5: a release collision */
+    ten(&pdu, 5, 0, 0, 0, 0);
+    given(7);
+    w.a.requestor = 1;
+    HEARD(pdu, FEO_AR_8, 9, 0, 0, 0);
+    given(7);
+    HEARD(pdu, FEO_AR_8, 10, 0, 0, 0);
+    /* 6: data after a release request */
+    data(&pdu, 1, 3, 4);
+    given(7);
+    HEARD(pdu, FEO_AR_6, 7, 0, 0, pdu.n);
+    given(8);
+    HEARD(pdu, FEO_AA_8, 13, ABORT_UNEXPECTED, 10, 0);
+    /* 7: an RQ in Sta13 */
+    request(&pdu, 1, APPLICATION, ECHO_CLASS, IMPLICIT);
+    given(13);
+    HEARD(pdu, FEO_AA_7, 13, ABORT_UNEXPECTED, 10, 0);
+    /* 8: ABORT source 1, and source 0 with reason 9 */
+    ten(&pdu, 7, 0, 0, 1, 0);
+    given(6);
+    HEARD(pdu, FEO_AA_8, 13, ABORT_INVALID, 10, 0);
+    CHECK(feo_read_abort(pdu.at, pdu.n, &from, &why) == 7 && from == 0 && why == 0);
+    ten(&pdu, 7, 0, 0, 0, 9);
+    given(6);
+    HEARD(pdu, FEO_AA_3, 1, 0, 0, 10);
+    CHECK(feo_read_abort(w.gather, w.r.shown, &from, &why) == 0 && from == 0 && why == 9);
+    /* 9: PDV length 1, PDV length 2, P-DATA-TF length 0 */
+    pdu.n = 0;
+    add(&pdu, "\x04\x00\x00\x00\x00\x05\x00\x00\x00\x01\x01", 11);
+    CHECK(feo_read_data(pdu.at, pdu.n, 0, &id, &control, &start, &length) == 7 && id == 0 && control == 0 && start == 0 && length == 0);
+    given(6);
+    HEARD(pdu, FEO_AA_8, 13, ABORT_INVALID, 10, 0);
+    pdu.n = 0;
+    add(&pdu, "\x04\x00\x00\x00\x00\x06\x00\x00\x00\x02\x01\xFF", 12);
+    CHECK(feo_read_data(pdu.at, pdu.n, 0, &id, &control, &start, &length) == 0);
+    CHECK(id == 1 && control == 0xFF && start == 12 && length == 0);
+    given(6);
+    HEARD(pdu, FEO_DT_2, 6, 0, 0, 12);
+    pdu.n = 0;
+    add(&pdu, "\x04\x00\x00\x00\x00\x00", 6);
+    CHECK(feo_read_data(pdu.at, pdu.n, 0, &id, &control, &start, &length) == 7);
+    given(6);
+    HEARD(pdu, FEO_AA_8, 13, ABORT_INVALID, 10, 0);
+}
+
+/* Case 10: names, each tried in the three places of an RQ. */
+static void case_10(void)
+{
+    static const char sixty_four[] = "1.234567890123456789012345678901234567890123456789012345678901.9";
+    static const char sixty_five[] = "1.2345678901234567890123456789012345678901234567890123456789012.9";
+    static const struct {
+        const char *name;
+        int valid;
+    } names[] = { { "1.0", 1 }, { "0", 1 }, { "1.02", 0 }, { "1.2.", 0 }, { "", 0 }, { sixty_four, 1 }, { sixty_five, 0 }, { ".1", 0 }, { "1..2", 0 }, { "1.a", 0 } };
+    static struct bytes pdu;
+    static uint8_t sheet[132];
+    struct feo_associate f;
+    size_t i;
+    CHECK(sizeof sixty_four == 65 && sizeof sixty_five == 66);
+    for (i = 0; i < sizeof names / sizeof *names; i++) {
+        unsigned refusal = names[i].valid ? 0 : 7;
+        request(&pdu, 1, names[i].name, ECHO_CLASS, IMPLICIT);
+        CHECK(feo_read_request(pdu.at, pdu.n, sheet, 132, &f) == refusal);
+        request(&pdu, 1, APPLICATION, names[i].name, IMPLICIT);
+        CHECK(feo_read_request(pdu.at, pdu.n, sheet, 132, &f) == refusal);
+        request(&pdu, 1, APPLICATION, ECHO_CLASS, names[i].name);
+        CHECK(feo_read_request(pdu.at, pdu.n, sheet, 132, &f) == refusal);
+        given(2);
+        if (names[i].valid)
+            HEARD(pdu, FEO_AE_6, 3, 0, 0, pdu.n);
+        else
+            HEARD(pdu, FEO_AA_1, 13, ABORT_USER, 10, 0);
+    }
+}
+
+/* Case 11: version 2 is rejected, 3 accepted. */
+static void case_11(void)
+{
+    static struct bytes pdu;
+    request(&pdu, 2, APPLICATION, ECHO_CLASS, IMPLICIT);
+    given(2);
+    HEARD(pdu, FEO_AE_6, 13, REJECT_VERSION, 10, 0);
+    request(&pdu, 3, APPLICATION, ECHO_CLASS, IMPLICIT);
+    given(2);
+    HEARD(pdu, FEO_AE_6, 3, 0, 0, pdu.n);
+    CHECK(w.a.peer_max == 16384);
+}
+
+/* Every number as an event in every state. */
+static void local_events(void)
+{
+    unsigned state, number, requestor;
+    for (state = 1; state <= 13; state++)
+        for (number = 0; number < 256; number++)
+            for (requestor = 0; requestor < 2; requestor++) {
+                unsigned known = number >= 1 && number <= 19, action = known ? cell(number, state) : 0;
+                const uint8_t *sent = action == FEO_AR_1 ? RELEASE_RQ : action == FEO_AA_1 ? ABORT_USER : RELEASE_RP;
+                size_t n = action == FEO_AR_1 || action == FEO_AR_4 || action == FEO_AR_9 || action == FEO_AA_1 ? 10 : 0;
+                given(state);
+                w.a.requestor = state == 1 ? 0 : (uint8_t)requestor;
+                if (number == 2 || number == 7 || number == 8 || number == 9)
+                    REFUSED(event(number, 0, 0), action != 0 ? 4 : 1);
+                else if (number == 3 || number == 4 || number == 6 || number == 10 || number == 12 || number == 13 || number == 16 || number == 19)
+                    REFUSED(event(number, 0, 0), 1);
+                else if (action == 0)
+                    REFUSED(event(number, 0, 0), 1);
+                else {
+                    if (n != 0)
+                        REFUSED(event(number, 0, 9), 2);
+                    before();
+                    if (action == FEO_AE_1)
+                        want.a.requestor = 1;
+                    local(__LINE__, event(number, 0, n), action, next_state(action, (int)requestor), sent, n);
+                }
+            }
+}
+
+static int shows(unsigned action)
+{
+    return action == FEO_AE_3 || action == FEO_AE_4 || action == FEO_AE_6 || action == FEO_DT_2 || action == FEO_AR_6 || action == FEO_AA_3;
+}
+
+/* Every kind of PDU in every state. */
+static void received(void)
+{
+    static struct bytes pdus[9];
+    static const uint8_t rows[9] = { 6, 3, 4, 10, 12, 13, 16, 19, 19 };
+    unsigned state, requestor, k;
+    request(&pdus[0], 1, APPLICATION, ECHO_CLASS, IMPLICIT);
+    acceptance(&pdus[1], 1, 0, 5000);
+    ten(&pdus[2], 3, 0xFF, 2, 3, 1);
+    data(&pdus[3], 255, 0xFF, 7);
+    ten(&pdus[4], 5, 0xDE, 0xAD, 0xBE, 0xEF);
+    ten(&pdus[5], 6, 1, 2, 3, 4);
+    ten(&pdus[6], 7, 9, 9, 2, 6);
+    ten(&pdus[7], 5, 0, 0, 0, 0);
+    pdus[7].at[5] = 3;
+    pdus[7].n = 9;
+    ten(&pdus[8], 0, 0, 0, 0, 0);
+    for (state = 1; state <= 13; state++)
+        for (requestor = 0; requestor < 2; requestor++)
+            for (k = 0; k < 9; k++) {
+                unsigned action = cell(rows[k], state);
+                const uint8_t *sent = action == FEO_AA_1 ? ABORT_USER : k < 7 ? ABORT_UNEXPECTED : k == 7 ? ABORT_INVALID : ABORT_UNRECOGNIZED;
+                size_t n = action == FEO_AA_1 || action == FEO_AA_7 || action == FEO_AA_8 ? 10 : 0;
+                given(state);
+                w.a.requestor = state == 1 ? 0 : (uint8_t)(requestor * 0x80);
+                w.a.peer_max = state == 1 ? 0 : 77;
+                if (action == 0)
+                    heard(__LINE__, pdus[k].at, pdus[k].n, 0, state, pdus[k].n, 0, 0, 0);
+                else
+                    HEARD(pdus[k], action, next_state(action, (int)requestor), sent, n, shows(action) ? pdus[k].n : 0);
+                if (w.a.state != 1)
+                    CHECK(w.a.peer_max == (action == FEO_AE_3 ? 5000U : action == FEO_AE_6 ? 16384U : state == 1 ? 0U : 77U));
+            }
+}
+
+/* Receiving: its refusals in their order, the empty piece, marks above 1. */
+static void receiving(void)
+{
+    static const uint8_t piece[] = { 5, 0, 0 };
+    size_t got, room;
+    unsigned state;
+    for (state = 1; state <= 13; state++) {
+        given(state);
+        heard(__LINE__, NULL, 0, 0, state, 0, 0, 0, 0);
+        heard(__LINE__, piece, 3, 0, state, 3, 0, 0, 0);
+        for (room = 0; room < 10; room++)
+            REFUSED(feo_receive(&w.a, w.gather, FEO_BUFFER, piece, 0, w.out, room, &w.r), 2);
+        REFUSED(feo_receive(&w.a, w.gather, FEO_BUFFER, NULL, 0, NULL, 0, &w.r), 2);
+        REFUSED(feo_receive(&w.a, w.gather, FEO_BUFFER - 1, piece, 3, w.out, 0, &w.r), 3);
+        REFUSED(feo_receive(&w.a, NULL, 0, NULL, 0, NULL, 0, &w.r), 3);
+        w.a.artim = !w.a.artim;
+        REFUSED(feo_receive(&w.a, w.gather, FEO_BUFFER - 1, piece, 3, w.out, 0, &w.r), 6);
+    }
+    /* the gathered length field: after 3, before 2 */
+    for (got = 6; got < 11; got++) {
+        given(6);
+        memcpy(w.gather, RELEASE_RQ, 10);
+        w.a.gathered = got;
+        if (got < 10)
+            heard(__LINE__, NULL, 0, 0, 6, 0, 0, 0, 0);
+        else
+            REFUSED(feo_receive(&w.a, w.gather, FEO_BUFFER, piece, 3, w.out, 0, &w.r), 6);
+        w.gather[4] = 0x40;
+        w.gather[5] = 1;
+        REFUSED(feo_receive(&w.a, w.gather, FEO_BUFFER, piece, 3, w.out, 0, &w.r), 6);
+        REFUSED(feo_receive(&w.a, w.gather, FEO_BUFFER - 1, piece, 3, w.out, 0, &w.r), 3);
+    }
+    /* a longer gather buffer is right, and its rest stays */
+    given(6);
+    before();
+    CHECK(feo_receive(&w.a, w.gather, FEO_BUFFER + 64, piece, 3, w.out, 10, &w.r) == 0 && w.r.used == 3 && w.a.gathered == 3);
+    CHECK(memcmp(w.guard3, want.guard3, 64) == 0 && memcmp(w.out, want.out, FEO_BUFFER) == 0);
+    /* marks above 1: kept by a refused call, stored as 1 by an answered one */
+    given(13);
+    w.a.artim = 0x80;
+    w.a.deaf = 2;
+    w.a.requestor = 255;
+    REFUSED(feo_receive(&w.a, w.gather, FEO_BUFFER, piece, 3, w.out, 9, &w.r), 2);
+    heard(__LINE__, piece, 3, 0, 13, 3, 0, 0, 0);
+    CHECK(w.a.artim == 1 && w.a.deaf == 1 && w.a.requestor == 1);
+}
+
+/* Broken records, at receiving and at each local call: 6 before all else. */
+static void broken(void)
+{
+    static const struct feo_assoc bad[] = {
+        { 0, 0, 0, 0, 0, 0 },     { 14, 0, 0, 0, 0, 0 },    { 77, 0, 0, 0, 0, 0 },    { 255, 0, 0, 0, 0, 0 },
+        { 6, 16390, 0, 0, 0, 0 }, { 1, 1, 0, 0, 0, 0 },     { 4, 1, 0, 0, 0, 0 },     { 13, 1, 1, 1, 0, 0 },
+        { 6, 0, 1, 0, 0, 0 },     { 2, 0, 255, 1, 0, 0 },   { 6, 0, 0, 1, 0, 0 },     { 2, 0, 0, 0, 0, 0 },
+        { 13, 0, 0, 0, 0, 0 },    { 3, 0, 0, 9, 0, 0 },     { 1, 0, 0, 0, 1, 0 },     { 1, 0, 0, 0, 0, 1 },
+        { 6, (size_t)-1, 0, 0, 0, 0 }
+    };
+    static uint8_t (*const calls[])(size_t, size_t) = { release, confirm, accept_it, reject, send_it };
+    size_t i, k;
+    for (i = 0; i < sizeof bad / sizeof *bad; i++) {
+        given(6);
+        w.a = bad[i];
+        called.n = echoed.n = items.n = 0;
+        REFUSED(feo_receive(&w.a, w.gather, FEO_BUFFER, w.guard0, 5, w.out, FEO_BUFFER, &w.r), 6);
+        REFUSED(feo_receive(&w.a, NULL, 0, NULL, 0, NULL, 0, &w.r), 6);
+        for (k = 0; k < sizeof calls / sizeof *calls; k++) {
+            REFUSED(calls[k](FEO_BUFFER, FEO_BUFFER), 6);
+            REFUSED(calls[k](0, 0), 6);
+        }
+        REFUSED(event(200, 0, 0), 6);
+    }
+    good_contents();
+}
+
+/* The five local calls: 3, 6 for the gathered length, 1 before 4, 2 by need; the count gathered stays. */
+static void local_refusals(void)
+{
+    static const struct {
+        uint8_t (*call)(size_t, size_t);
+        unsigned number, state, action, next;
+        size_t sent;
+    } calls[] = {
+        { release, 11, 6, FEO_AR_1, 7, 10 },
+        { accept_it, 7, 3, FEO_AE_7, 6, 140 },
+        { reject, 8, 3, FEO_AE_8, 13, 10 },
+        { send_it, 9, 6, FEO_DT_1, 6, 14 },
+        { send_it, 9, 8, FEO_AR_7, 8, 14 },
+        { confirm, 2, 4, FEO_AE_2, 5, 161 }
+    };
+    size_t i;
+    unsigned state;
+    for (i = 0; i < sizeof calls / sizeof *calls; i++) {
+        good_contents();
+        for (state = 1; state <= 13; state++) {
+            if (cell(calls[i].number, state) != 0)
+                continue;
+            given(state);
+            REFUSED(calls[i].call(0, 0), 1);
+            REFUSED(calls[i].call(FEO_BUFFER, FEO_BUFFER), 1);
+        }
+        given(calls[i].state);
+        REFUSED(calls[i].call(0, calls[i].sent - 1), 2);
+        REFUSED(calls[i].call(FEO_BUFFER, 0), 2);
+        if (calls[i].state != 4) {
+            memcpy(w.gather, RELEASE_RQ, 10);
+            w.a.gathered = 9;
+            REFUSED(calls[i].call(8, 0), 3);
+            w.gather[5] = 3;
+            REFUSED(calls[i].call(8, 0), 3);
+            REFUSED(calls[i].call(9, 0), 6);
+            w.gather[4] = 0x40;
+            REFUSED(calls[i].call(9, FEO_BUFFER), 6);
+            w.gather[4] = 0x40, w.gather[5] = 0;
+            REFUSED(calls[i].call(9, 0), 2);
+        }
+        w.a.requestor = 3;
+        before();
+        CHECK(calls[i].call(w.a.gathered, calls[i].sent) == 0 && w.r.sent == calls[i].sent);
+        memcpy(want.out, w.out, calls[i].sent);
+        local(__LINE__, 0, calls[i].action, calls[i].next, w.out, calls[i].sent);
+        CHECK(w.a.requestor == 1 && w.a.gathered == (calls[i].state == 4 ? 0U : 9U));
+    }
+}
+
+static void bad_confirm(unsigned refusal)
+{
+    given(4);
+    REFUSED(confirm(0, 0), refusal);
+    REFUSED(confirm(0, FEO_BUFFER), refusal);
+    good_contents();
+}
+
+static void bad_accept(unsigned refusal)
+{
+    given(3);
+    REFUSED(accept_it(0, 0), refusal);
+    REFUSED(accept_it(0, FEO_BUFFER), refusal);
+    good_contents();
+}
+
+/* Contents of the confirmation and of the accept response: 4, then 5, then 2. */
+static void contents(void)
+{
+    unsigned i;
+    good_contents();
+    called.n = 15;
+    bad_confirm(4);
+    calling.n = 17;
+    bad_confirm(4);
+    memset(called.at, ' ', 16);
+    bad_confirm(4);
+    calling.at[3] = 0x5C;
+    bad_confirm(4);
+    calling.at[15] = 0;
+    bad_confirm(4);
+    application.at[4] = '0';
+    bad_confirm(4);
+    application.n = 0;
+    bad_confirm(4);
+    proposal.n = 0;
+    bad_confirm(4);
+    proposal.n = 131;
+    bad_confirm(4);
+    proposal.at[0] = 2;
+    bad_confirm(4);
+    proposal.at[1] = 1;
+    bad_confirm(4);
+    proposal.at[2] = 65;
+    bad_confirm(4);
+    proposal.at[67] = 1;
+    bad_confirm(4);
+    proposal.at[131] = 1;
+    bad_confirm(4);
+    add_record(&proposal, 1, 0, "1.2", IMPLICIT);
+    bad_confirm(4);
+    add_record(&proposal, 3, 0, ECHO_CLASS, IMPLICIT);
+    add_record(&proposal, 1, 0, ECHO_CLASS, IMPLICIT);
+    bad_confirm(4);
+    echoed.n = 63;
+    bad_accept(4);
+    echoed.n = 65;
+    bad_accept(4);
+    echoed.n = 0;
+    bad_accept(4);
+    application.at[0] = '.';
+    bad_accept(4);
+    answers.at[0] = 128;
+    bad_accept(4);
+    answers.at[1] = 5;
+    bad_accept(4);
+    answers.at[2] = 1;
+    bad_accept(4);
+    answers.at[3] = 0;
+    bad_accept(4);
+    answers.at[4] = 1;
+    bad_accept(4);
+    add_record(&answers, 1, 0, "", IMPLICIT);
+    bad_accept(4);
+    answers.n = 0;
+    bad_accept(4);
+    /* 128 contexts of 64-byte names are too long for one PDU; with one bad record at the end 4 comes first */
+    proposal.n = 0;
+    for (i = 0; i < 128; i++)
+        add_record(&proposal, 2 * i + 1, 0, "1.234567890123456789012345678901234567890123456789012345678901.9", "1.234567890123456789012345678901234567890123456789012345678901.9");
+    bad_confirm(5);
+    proposal.n = 0;
+    for (i = 0; i < 128; i++)
+        add_record(&proposal, 2 * i + 1, 0, "1.234567890123456789012345678901234567890123456789012345678901.9", "1.234567890123456789012345678901234567890123456789012345678901.9");
+    add_record(&proposal, 2, 0, ECHO_CLASS, IMPLICIT);
+    bad_confirm(4);
+}
+
+/* 40,000 good records get 5, with one bad last record 4. */
+static void long_sheet(void)
+{
+    size_t n = (size_t)40000 * 132, i;
+    uint8_t *sheet = (uint8_t *)malloc(n);
+    CHECK(sheet != NULL);
+    good_contents();
+    for (i = 0; i < 40000; i++)
+        memcpy(sheet + i * 132, proposal.at, 132);
+    given(4);
+    REFUSED(feo_confirm(&w.a, called.at, 16, calling.at, 16, application.at, application.n, sheet, n, NULL, 0, w.out, 0, &w.r), 5);
+    sheet[n - 132] = 4;
+    REFUSED(feo_confirm(&w.a, called.at, 16, calling.at, 16, application.at, application.n, sheet, n, NULL, 0, w.out, 0, &w.r), 4);
+    free(sheet);
+}
+
+/* A reject's values: all triples around the lists. */
+static void rejects(void)
+{
+    static const char *const reasons[] = { "", "\1\2\3\7", "\1\2", "\1\2" };
+    uint8_t sent[10] = { 3, 0, 0, 0, 0, 4, 0, 0, 0, 0 };
+    for (result = 0; result < 4; result++)
+        for (source = 0; source < 5; source++)
+            for (reason = 0; reason < 10; reason++) {
+                int good = result >= 1 && result <= 2 && source >= 1 && source <= 3 && reason != 0 && strchr(reasons[source], (int)reason) != NULL;
+                given(3);
+                sent[7] = (uint8_t)result;
+                sent[8] = (uint8_t)source;
+                sent[9] = (uint8_t)reason;
+                if (good)
+                    LOCAL(reject(0, 10), FEO_AE_8, 13, sent, 10);
+                else
+                    REFUSED(reject(0, 10), 4);
+            }
+    good_contents();
+}
+
+/* PDV items, the peer maximum, and the greatest PDU. */
+static void sending(void)
+{
+    static const uint8_t fragment[16384] = { 1 };
+    static struct bytes pdu;
+    uint32_t peer;
+    items.n = 0;
+    given(6);
+    REFUSED(send_it(0, FEO_BUFFER), 4);
+    REFUSED(feo_send(&w.a, NULL, 0, NULL, 0, NULL, 0, &w.r), 4);
+    add(&items, "\x00\x00\x00\x01\x01", 5);
+    REFUSED(send_it(0, FEO_BUFFER), 4);
+    items.n = 0;
+    add_pdv(&items, 2, 0, "ab", 2);
+    REFUSED(send_it(0, FEO_BUFFER), 4);
+    items.n = 0;
+    add_pdv(&items, 1, 4, "ab", 2);
+    REFUSED(send_it(0, FEO_BUFFER), 4);
+    items.n = 0;
+    add_pdv(&items, 1, 0, "ab", 2);
+    items.n--;
+    REFUSED(send_it(0, FEO_BUFFER), 4);
+    items.n += 2;
+    REFUSED(send_it(0, FEO_BUFFER), 4);
+    add_four(&items, 0xFFFFFFFFUL);
+    add_two(&items, 0x0100);
+    REFUSED(send_it(0, FEO_BUFFER), 4);
+    /* two items of 16,384 in all, then one byte more */
+    items.n = 0;
+    add_pdv(&items, 1, 1, "ab", 2);
+    add_pdv(&items, 3, 2, fragment, 16384 - 8 - 6);
+    whole(&pdu, 4, &items);
+    CHECK(pdu.n == FEO_BUFFER);
+    LOCAL(send_it(0, FEO_BUFFER), FEO_DT_1, 6, pdu.at, pdu.n);
+    REFUSED(send_it(0, FEO_BUFFER - 1), 2);
+    items.n = 0;
+    add_pdv(&items, 1, 0, fragment, 16384 - 6 + 1);
+    REFUSED(send_it(0, FEO_BUFFER), 5);
+    items.at[4] = 2;
+    REFUSED(send_it(0, FEO_BUFFER), 4);
+    /* a peer maximum */
+    items.n = 0;
+    add_pdv(&items, 1, 0, fragment, 10);
+    whole(&pdu, 4, &items);
+    for (peer = 0; peer < 20; peer++) {
+        w.a.peer_max = peer;
+        if (peer != 0 && peer < 16)
+            REFUSED(send_it(0, 0), 5);
+        else
+            LOCAL(send_it(0, 22), FEO_DT_1, 6, pdu.at, 22);
+    }
+    w.a.peer_max = 0xFFFFFFFFU;
+    LOCAL(send_it(0, 22), FEO_DT_1, 6, pdu.at, 22);
+    good_contents();
+}
+
+/* A read that is refused hands out zeros and leaves the sheet. */
+static void unread(int line, uint8_t got, unsigned refusal, const struct feo_associate *f, const uint8_t *sheet, size_t n)
+{
+    size_t i;
+    check(line, got == refusal, "the refusal");
+    check(line, f->version == 0 && f->application_at == 0 && f->application_len == 0 && f->maximum == 0 && f->records == 0, "zeros");
+    for (i = 0; i < n; i++)
+        check(line, sheet[i] == 0xEE, "the sheet stays");
+}
+
+static void reading(void)
+{
+    static struct bytes b, context, pdu, sheet;
+    static uint8_t room[132 * 5];
+    struct feo_associate f;
+    size_t n;
+    uint8_t x = 9, y = 9, z = 9;
+    size_t start, length;
+    /* an RQ of two contexts with skipped items, three transfer syntaxes */
+    b.n = context.n = sheet.n = 0;
+    add_fixed(&b, 0xFF01);
+    add_item(&b, 0x99, "", 0);
+    add_name(&b, 0x10, APPLICATION);
+    add_four(&context, 0x05FFFFFF);
+    add_item(&context, 0x33, "zz", 2);
+    add_name(&context, 0x30, ECHO_CLASS);
+    add_name(&context, 0x40, IMPLICIT);
+    add_name(&context, 0x40, "1.2");
+    add_item(&b, 0x20, context.at, context.n);
+    add_item(&b, 0x21, "rubbish", 7);
+    context.n = 0;
+    add_four(&context, 0x03000000);
+    add_name(&context, 0x30, "0");
+    add_name(&context, 0x40, IMPLICIT);
+    add_item(&b, 0x20, context.at, context.n);
+    add_user(&b, 0xFFFFFFFFUL);
+    whole(&pdu, 1, &b);
+    add_record(&sheet, 5, 0, ECHO_CLASS, IMPLICIT);
+    add_record(&sheet, 5, 0, ECHO_CLASS, "1.2");
+    add_record(&sheet, 3, 0, "0", IMPLICIT);
+    memset(room, 0xEE, sizeof room);
+    for (n = 0; n < 3 * 132; n += 131) {
+        memset(&f, 0xEE, sizeof f);
+        unread(__LINE__, feo_read_request(pdu.at, pdu.n, room, n, &f), 2, &f, room, sizeof room);
+    }
+    memset(&f, 0xEE, sizeof f);
+    unread(__LINE__, feo_read_request(pdu.at, pdu.n, NULL, 0, &f), 2, &f, room, sizeof room);
+    memset(&f, 0xEE, sizeof f);
+    unread(__LINE__, feo_read_request(pdu.at, pdu.n - 1, room, sizeof room, &f), 7, &f, room, sizeof room);
+    memset(&f, 0xEE, sizeof f);
+    unread(__LINE__, feo_read_accept(pdu.at, pdu.n, room, sizeof room, &f), 7, &f, room, sizeof room);
+    memset(&f, 0xEE, sizeof f);
+    unread(__LINE__, feo_read_request(NULL, 0, NULL, 0, &f), 7, &f, room, sizeof room);
+    CHECK(feo_read_request(pdu.at, pdu.n, room, sizeof room, &f) == 0);
+    CHECK(f.version == 0xFF01 && f.maximum == 0xFFFFFFFFU && f.records == 3);
+    CHECK(f.application_len == strlen(APPLICATION) && memcmp(pdu.at + f.application_at, APPLICATION, f.application_len) == 0);
+    CHECK(memcmp(room, sheet.at, 3 * 132) == 0 && room[3 * 132] == 0xEE && room[5 * 132 - 1] == 0xEE);
+    CHECK(memcmp(pdu.at + FEO_CALLED_AT, "STORE-EQUINE    ", FEO_TITLE_LEN) == 0);
+    CHECK(memcmp(pdu.at + FEO_CALLING_AT, "NIGHT-SCANNER   ", FEO_TITLE_LEN) == 0);
+    /* the greatest sheet: 3,257 records */
+    b.n = context.n = 0;
+    add_fixed(&b, 1);
+    add_name(&b, 0x10, "0");
+    add_four(&context, 0x01000000);
+    add_name(&context, 0x30, "0");
+    for (n = 0; n < 3257; n++)
+        add_name(&context, 0x40, "0");
+    add_item(&b, 0x20, context.at, context.n);
+    add_user(&b, 0);
+    whole(&pdu, 1, &b);
+    CHECK(pdu.n <= FEO_BUFFER && pdu.n + 5 > FEO_BUFFER);
+    {
+        uint8_t *great = (uint8_t *)malloc((size_t)3257 * 132);
+        CHECK(great != NULL);
+        CHECK(feo_read_request(pdu.at, pdu.n, great, (size_t)3257 * 132 - 1, &f) == 2 && f.records == 0);
+        CHECK(feo_read_request(pdu.at, pdu.n, great, (size_t)3257 * 132, &f) == 0 && f.records == 3257 && f.maximum == 0);
+        CHECK(great[3256 * 132] == 1 && great[3256 * 132 + 68] == '0');
+        free(great);
+    }
+    /* an AC */
+    acceptance(&pdu, 1, 4, 7);
+    memset(room, 0xEE, sizeof room);
+    memset(&f, 0xEE, sizeof f);
+    unread(__LINE__, feo_read_accept(pdu.at, pdu.n, room, 131, &f), 2, &f, room, sizeof room);
+    memset(&f, 0xEE, sizeof f);
+    unread(__LINE__, feo_read_request(pdu.at, pdu.n, room, 132, &f), 7, &f, room, sizeof room);
+    CHECK(feo_read_accept(pdu.at, pdu.n, room, 132, &f) == 0 && f.version == 1 && f.maximum == 7 && f.records == 1);
+    CHECK(memcmp(pdu.at + f.application_at, APPLICATION, f.application_len) == 0 && f.application_len == strlen(APPLICATION));
+    sheet.n = 0;
+    add_record(&sheet, 1, 4, "", IMPLICIT);
+    CHECK(memcmp(room, sheet.at, 132) == 0 && room[132] == 0xEE);
+    acceptance(&pdu, 2, 0, 7);
+    memset(&f, 0xEE, sizeof f);
+    CHECK(feo_read_accept(pdu.at, pdu.n, room, 132, &f) == 7 && f.maximum == 0);
+    /* an RJ, an ABORT */
+    ten(&pdu, 3, 0xFF, 2, 1, 7);
+    CHECK(feo_read_reject(pdu.at, pdu.n, &x, &y, &z) == 0 && x == 2 && y == 1 && z == 7);
+    pdu.at[9] = 4;
+    CHECK(feo_read_reject(pdu.at, pdu.n, &x, &y, &z) == 7 && x == 0 && y == 0 && z == 0);
+    CHECK(feo_read_reject(NULL, 0, &x, &y, &z) == 7);
+    ten(&pdu, 7, 1, 2, 2, 5);
+    CHECK(feo_read_abort(pdu.at, pdu.n, &x, &y) == 0 && x == 2 && y == 5);
+    pdu.at[9] = 3;
+    CHECK(feo_read_abort(pdu.at, pdu.n, &x, &y) == 7 && x == 0 && y == 0);
+    CHECK(feo_read_abort(pdu.at, 9, &x, &y) == 7 && feo_read_abort(NULL, 0, &x, &y) == 7);
+    /* PDVs by number */
+    b.n = 0;
+    add_pdv(&b, 1, 0xF3, "abc", 3);
+    add_pdv(&b, 255, 2, "", 0);
+    whole(&pdu, 4, &b);
+    CHECK(feo_read_data(pdu.at, pdu.n, 0, &x, &y, &start, &length) == 0 && x == 1 && y == 0xF3 && start == 12 && length == 3);
+    CHECK(memcmp(pdu.at + start, "abc", 3) == 0);
+    CHECK(feo_read_data(pdu.at, pdu.n, 1, &x, &y, &start, &length) == 0 && x == 255 && y == 2 && start == pdu.n && length == 0);
+    for (n = 2; n != 1; n = n > 2 ? 1 : (size_t)-1) {
+        x = y = 9;
+        start = length = 9;
+        CHECK(feo_read_data(pdu.at, pdu.n, n, &x, &y, &start, &length) == 4 && x == 0 && y == 0 && start == 0 && length == 0);
+    }
+    CHECK(feo_read_data(pdu.at, pdu.n - 1, 9, &x, &y, &start, &length) == 7);
+    CHECK(feo_read_data(NULL, 0, 0, &x, &y, &start, &length) == 7);
+}
+
+int main(void)
+{
+    good_contents();
+    header();
+    cases_1_2();
+    case_3();
+    case_4_titles();
+    cases_5_to_9();
+    case_10();
+    case_11();
+    local_events();
+    received();
+    receiving();
+    broken();
+    local_refusals();
+    contents();
+    long_sheet();
+    rejects();
+    sending();
+    reading();
+    printf("%ld checks through the header hold\n", checks);
+    return 0;
+}
