@@ -1,4 +1,5 @@
-pub mod Sound
-pub mod TenLaws
 pub mod RefusalLaws
 pub mod DeedLaws
+pub mod TenLaws
+pub mod MarkLaws
+pub mod Agree

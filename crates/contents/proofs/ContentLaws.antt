@@ -30,8 +30,8 @@ pub ruleset counting = (deciding, eqb-is, long-is, named-is, needs)
 pub tail-subs : (r : Bool) (b : List ℕ) → r ≡ keeps subRule 0 (walk (take (length b - 4) (drop 4 b))) → r ≡ keeps subRule 0 (walk (drop 4 b))
 tail-subs r b e = e ∙ rw (part-tail 4 b)
 
-pub tail-transfer : (r : Bool) (b : List ℕ) → r ≡ transferOk (walk (take (length b - 4) (drop 4 b))) → r ≡ transferOk (walk (drop 4 b))
-tail-transfer r b e = e ∙ rw (part-tail 4 b)
+pub tail-transfer : (r : Bool) (result : ℕ) (b : List ℕ) → r ≡ transferOk result (walk (take (length b - 4) (drop 4 b))) → r ≡ transferOk result (walk (drop 4 b))
+tail-transfer r result b e = e ∙ rw (part-tail 4 b)
 
 pub ruleset bodied = (deciding, tail-subs, tail-transfer, needs)
 

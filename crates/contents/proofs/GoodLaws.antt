@@ -4,14 +4,16 @@ use Prim.Native.Nat.{ℕ, _≤_}
 use mathlib.Core.Bool.{Bool, true, false, _&&_}
 use mathlib.Core.List.{List, [], _∷_}
 use mathlib.Core.Path.{_≡_, refl}
+use native.Mathlib.Omega.{arith}
 use lib.ListN.{length, drop, getD}
 use lib.Dec.{leb, eqb}
-use borrow.Author.Tests.{leb-true, eqb-true}
+use borrow.Author.Tests.{le-leb, leb-true}
 use Rattle.laws.specs.Lists.{all, distinct}
 use Rattle.laws.proofs.Booleans.{left-of, right-of}
 use Rattle.names.specs.Name.{nameOk}
 use Rattle.items.specs.Items.{walk, bodies, first, keeps}
 use Rattle.items.proofs.RuleLaws.{keeps-good}
+use Rattle.contents.proofs.Meaning.{Sub, sub-counts}
 use Rattle.contents.specs.Contents.{odd, subRule, subGood, good20H, transferOk, one, good21H, contextGood, topRule, topGood, ids, itemsOk}
 
 -- ---- a good 20H
@@ -34,9 +36,23 @@ module _ (b : List ℕ) (g : good20H b ≡ true) where
   unfolding subGood
   transfer-names = keeps-good subRule 0x40 0 (walk (drop 4 b)) kept-20
 
+  -- one 30H and one or more 40H
+  pub counts-20 : Sub 0 (walk (drop 4 b))
+  counts-20 = sub-counts 0 (walk (drop 4 b)) kept-20
+
+  pub abstract-name : nameOk (first (bodies 0x30 (walk (drop 4 b)))) ≡ true
+  abstract-name = go (bodies 0x30 (walk (drop 4 b))) (counts-20 .abstracts) abstract-names
+    where
+      go : (bs : List (List ℕ)) → length bs ≡ 1 → all nameOk bs ≡ true → nameOk (first bs) ≡ true
+      go [] l h = absurd (omega arith)
+      go (c ∷ bs) l h = left-of _ _ h
+
+  pub some-transfer : leb 1 (length (bodies 0x40 (walk (drop 4 b)))) ≡ true
+  some-transfer = le-leb 1 (length (bodies 0x40 (walk (drop 4 b)))) (counts-20 .transfers)
+
 -- ---- a good 21H
 module _ (b : List ℕ) (g : good21H b ≡ true) where
-  parts-21 : (leb 4 (length b) && (odd (getD b 0 0) && (leb (getD b 2 0) 4 && transferOk (walk (drop 4 b))))) ≡ true
+  parts-21 : (leb 4 (length b) && (odd (getD b 0 0) && (leb (getD b 2 0) 4 && transferOk (getD b 2 0) (walk (drop 4 b))))) ≡ true
   unfolding good21H
   parts-21 = g
 

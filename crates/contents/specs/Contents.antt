@@ -39,11 +39,12 @@ good20H b = leb 4 (length b) && (odd (getD b 0 0) && keeps subRule 0 (walk (drop
 unfoldable pub one : ℕ → Walk → Bool
 one t w = filled w && eqb (length (bodies t w)) 1
 
-unfoldable pub transferOk : Walk → Bool
-transferOk w = one 0x40 w && nameOk (first (bodies 0x40 w))
+-- what follows the four bytes, by the result
+unfoldable pub transferOk : ℕ → Walk → Bool
+transferOk result w = one 0x40 w && nameOk (first (bodies 0x40 w))
 
 unfoldable pub good21H : List ℕ → Bool
-good21H b = leb 4 (length b) && (odd (getD b 0 0) && (leb (getD b 2 0) 4 && transferOk (walk (drop 4 b))))
+good21H b = leb 4 (length b) && (odd (getD b 0 0) && (leb (getD b 2 0) 4 && transferOk (getD b 2 0) (walk (drop 4 b))))
 
 -- ---- "50H: exactly one 51H of length 4, the maximum length .. Sub-item order is not tested."
 unfoldable pub good50H : List ℕ → Bool

@@ -82,8 +82,9 @@ pub(crate) fn one_of(t: u8, s: &[u8]) -> bool
     items::count_of(t, s) == 1
 }
 
-fn transfer_ok(s: &[u8]) -> bool
-    ensures { λ r. ⌜ r ≡ transferOk (walk (now (s .entry))) ⌝ }
+// Whether the sub-items of a 21H with this result are right.
+fn transfer_ok(result: u8, s: &[u8]) -> bool
+    ensures { λ r. ⌜ r ≡ transferOk result (walk (now (s .entry))) ⌝ }
 {
     if !one_of(0x40, s) {
         return false;
@@ -103,7 +104,7 @@ fn answered_ok(b: &[u8]) -> bool
     if b[2] > 4 {
         return false;
     }
-    transfer_ok(&b[4..])
+    transfer_ok(b[2], &b[4..])
 }
 
 // Whether a context of type k may have this body.

@@ -16,8 +16,7 @@ use Rattle.laws.specs.Lists.{all}
 use Rattle.laws.proofs.Booleans.{left-of, right-of, both-of}
 use Rattle.octets.specs.Octets.{be16, be32}
 use Rattle.items.proofs.WalkLaws.{be16-drop}
-use Rattle.judging.specs.Data.{Pdv, pdvStep, pdvsIn, pdvs, size, pdvOk, pdvsOk}
-use Rattle.judging.specs.Inner.{pdvEnd}
+use Rattle.judging.specs.Data.{Pdv, pdvStep, pdvsIn, pdvs, size, pdvOk, pdvsOk, pdvEnd}
 
 -- ---- the equation without a count of steps
 module _ (s : List ℕ) where

@@ -37,6 +37,11 @@ module _ (x : List ℕ) where
 
 pub ruleset whole-laws = (needs, whole-short, whole-other, whole-is)
 
+-- a PDU whose PDU-length is true and at most 16,384
+pub whole-of : (x : List ℕ) → length x ≡ 6 + pduLength x → pduLength x ≤ 16384 → whole x ≡ true
+unfolding whole
+whole-of x e h = both-of _ _ (eq-eqb (length x) (6 + pduLength x) e) (le-leb (pduLength x) 16384 h)
+
 -- ---- what a whole PDU has
 module _ (x : List ℕ) (w : whole x ≡ true) where
   pub whole-length : length x ≡ 6 + pduLength x
@@ -127,6 +132,9 @@ module _ (x : List ℕ) where
 
   pub kind-valid : (k : ℕ) → kindOf x ≡ k → (k ≡ 0 → ⊥) → validAs k x ≡ true
   kind-valid k e n = ap (λ (t : ℕ). validAs t x) (sym (kind-type k e n)) ∙ right-of (whole x) _ (both k e n .0)
+
+  pub kind-six : (k : ℕ) → kindOf x ≡ k → (k ≡ 0 → ⊥) → 6 ≤ length x
+  kind-six k e n = whole-six x (kind-whole k e n)
 
   -- and the other way: a whole PDU that is valid as its type
   pub kind-of-valid : (k : ℕ) → whole x ≡ true → getD x 0 0 ≡ k → validAs k x ≡ true → kindOf x ≡ k

@@ -41,3 +41,7 @@ pdvOk most p = odd (p .id) && leb (p .control) most
 
 unfoldable pub pdvsOk : ℕ → List ℕ → Bool
 pdvsOk most s = leb 1 (length (pdvs s)) && (eqb (size (pdvs s)) (length s) && all (pdvOk most) (pdvs s))
+
+-- the place behind the PDV item at a place, or 0 where none stands there
+unfoldable pub pdvEnd : List ℕ → ℕ → ℕ
+pdvEnd s at = cond (leb 2 (be32 s at) && leb (at + 4 + be32 s at) (length s)) (at + 4 + be32 s at) 0

@@ -1,7 +1,6 @@
 // The PDV items of a P-DATA-TF.
 ghost use mathlib.Core.Path.{_≡_};
-ghost use Rattle.judging.specs.Data.{pdvsOk};
-ghost use Rattle.judging.specs.Inner.{pdvEnd};
+ghost use Rattle.judging.specs.Data.{pdvsOk, pdvEnd};
 
 // The place behind the PDV item at `at`, or 0 where none stands there: its length is at least 2 and it ends within s.
 pub fn pdv_end(s: &[u8], at: usize) -> usize

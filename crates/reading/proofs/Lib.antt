@@ -3,3 +3,5 @@ pub mod ReadLaws
 pub mod ValueLaws
 pub mod DataLaws
 pub mod Agree
+pub mod Meaning
+pub mod Examples

@@ -1,8 +1,6 @@
 // Reading a PDV by its number.
 ghost use mathlib.Core.Path.{_≡_};
-ghost use mathlib.Core.Bool.{true};
-ghost use Prim.Native.Nat.{_≤_};
-ghost use lib.ListN.{length, take};
+ghost use lib.ListN.{take};
 ghost use Rattle.judging.specs.Data.{pdvs, size};
 ghost use Rattle.reading.specs.Data.{dataOf, fragmentOf};
 

@@ -17,7 +17,7 @@ use Rattle.octets.specs.Put.{put, Placed}
 use Rattle.octets.proofs.PutLaws.{put-out, put-behind, put-length, put-put}
 use Rattle.framing.specs.Framing.{Frame, frame, lengthField, Frame.short, Frame.long, Frame.whole}
 use Rattle.framing.proofs.Framing.{frame-few, frame-part, frame-over, frame-full, length-take-field, length-append-field, no-event-yet}
-use Rattle.framing.proofs.Call.{take-put}
+use Rattle.framing.proofs.Buffers.{take-put}
 use Rattle.receiving.specs.Gathering.{wantOf, Fills, Filled, Fit, Gathered}
 use Rattle.receiving.specs.declared.gather.Head.{Head}
 use Rattle.receiving.specs.declared.gather.Head.the-variants.{Short, Long, Whole}

@@ -1,3 +1,6 @@
 pub mod GatherLaws
 pub mod DeedLaws
+pub mod Opened
+pub mod Ways
 pub mod HearLaws
+pub mod Agree

@@ -68,12 +68,12 @@ fn done(action: u8, a: Assoc, b: Brings, abort: u8) -> Deed
 {
     let ten = association::ten_by(action, b.accepts, abort);
     let shows = table::shows(action, b.accepts);
-    let assoc = association::after(action, a, b);
+    let next = association::after(action, a, b);
     Deed {
         action,
         ten,
         shows,
-        assoc,
+        assoc: next,
     }
 }
 

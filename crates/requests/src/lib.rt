@@ -123,7 +123,7 @@ pub fn confirm(
     if refusal != 0 {
         return association::refused(refusal, a);
     }
-    let sent = writing::write_request(called, calling, application, sheet, out);
+    let sent = associate::write_request(called, calling, application, sheet, out);
     finish(a, action, sent)
 }
 
@@ -144,7 +144,7 @@ pub fn accept(
     if refusal != 0 {
         return association::refused(refusal, a);
     }
-    let sent = writing::write_accept(echoed, application, sheet, out);
+    let sent = associate::write_accept(echoed, application, sheet, out);
     finish(a, action, sent)
 }
 

@@ -1,11 +1,11 @@
 -- Sheets and contexts are inverse where they are good: a good sheet's contexts give back the sheet, and good contexts are those of their sheet, which is good.
 -- Assumes nothing.
-use Prim.Native.Nat.{ℕ, zero, suc, _+_, _-_, _*_, _/_, _%_, _≤_, _<_}
+use Prim.Native.Nat.{ℕ, zero, suc, _-_, _*_, _/_, _%_, _≤_}
 use native.Mathlib.Omega.{arith}
 use mathlib.Core.Bool.{Bool, true, false, not, _&&_, _||_, cond}
-use mathlib.Core.List.{List, [], _∷_, _++_, map, append-assoc, append-nil}
+use mathlib.Core.List.{List, [], _∷_, _++_, map, append-assoc}
 use mathlib.Core.Path.{_≡_, refl, sym, ap, _∙_}
-use lib.ListN.{length, take, drop, getD, replicate, length-append, length-drop, length-replicate, take-append-drop}
+use lib.ListN.{length, take, drop, getD, replicate, length-append, length-drop, take-append-drop}
 use lib.Seq.{take-take, take-at, drop-at, drop-drop, length-take-le}
 use lib.Dec.{leb, eqb}
 use borrow.Author.Tests.{le-leb, eq-eqb, leb-true, eqb-true, not-true}
@@ -15,9 +15,9 @@ use Rattle.laws.proofs.Same.{same-equal, same-self}
 use Rattle.names.specs.Name.{nameOk}
 use Rattle.names.proofs.NameLaws.{name-short}
 use Rattle.sheets.specs.Contexts.{Context, Answered, contextId, answeredId, odd, contextOk, transferOk, answeredOk, contextsOk, allAnsweredOk}
-use Rattle.sheets.specs.Sheet.{field, recordBytes, contextRecords, sheetOf, answerSheetOf, recordsOf, recordId, cap, abstractOf, transferOf, goesOn, firstTransfers, others, start, runs, contextsIn, answeredOf, answersIn, zero?, fieldOk, fieldsOk, proposes, answers, proposalOk, answersOk}
+use Rattle.sheets.specs.Sheet.{field, recordBytes, contextRecords, sheetOf, answerSheetOf, recordsOf, recordId, abstractOf, transferOf, goesOn, firstTransfers, others, start, runs, contextsIn, answeredOf, answersIn, zero?, fieldOk, fieldsOk, proposes, answers, proposalOk, answersOk}
 use Rattle.sheets.proofs.RecordLaws.{cap-low, field-length, record-length}
-use Rattle.sheets.proofs.RunLaws.{records-cons, records-none, no-run}
+use Rattle.sheets.proofs.RunLaws.{records-cons, no-run}
 
 -- a transfer name fits its field, for each result
 pub transfer-fits : (result : ℕ) (x : List ℕ) → transferOk result x ≡ true → length x ≤ 64

@@ -9,8 +9,8 @@ use lib.ListN.{length, take, drop, getD, length-drop}
 use lib.Seq.{drop-drop, getD-take, getD-drop}
 use lib.Dec.{leb, eqb}
 use borrow.Author.Needs.{needs}
-use borrow.Author.Tests.{le-leb, lt-leb, eq-eqb, ne-eqb, leb-true, leb-false, eqb-true, not-true, not-false}
-use Rattle.laws.specs.Lists.{records, sameBytes, among, distinct}
+use borrow.Author.Tests.{eq-eqb, ne-eqb, leb-true, leb-false, eqb-true, not-true, not-false}
+use Rattle.laws.specs.Lists.{sameBytes, among, distinct}
 use Rattle.laws.proofs.Booleans.{left-of, held}
 use Rattle.sheets.specs.Contexts.{Context, contextId}
 use Rattle.sheets.specs.Sheet.{recordId, abstractOf, recordsOf, goesOn, others, start, runs, contextsIn, answeredOf, answersIn}

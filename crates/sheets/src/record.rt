@@ -1,7 +1,7 @@
 // One record of the sheet: made, and looked at.
 ghost use mathlib.Core.Path.{_≡_};
 ghost use Prim.Native.Nat.{_+_, _≤_};
-ghost use lib.ListN.{length, take, drop};
+ghost use lib.ListN.{length, take};
 ghost use Rattle.laws.specs.Lists.{sameBytes};
 ghost use Rattle.sheets.specs.Sheet.{recordBytes, cap, abstractOf, transferOf};
 ghost use Rattle.sheets.specs.Record.{recordOf, recordAt, abstractAt, transferAt, goesOnAt};

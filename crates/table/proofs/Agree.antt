@@ -5,6 +5,7 @@ use Rattle.table.proofs.cell as cell
 use Rattle.table.proofs.next_state as next-state
 use Rattle.table.proofs.artim_after as artim-after
 use Rattle.table.proofs.shows as shows
+use Rattle.table.proofs.is_received as is-received
 
 pub cell-agrees : Agrees 0 cell.Kinds.ps cell.Kinds.r cell.Reads.Post
 cell-agrees κs args a b x y p q = agree p q
@@ -17,3 +18,6 @@ artim-after-agrees κs args a b x y p q = agree p q
 
 pub shows-agrees : Agrees 0 shows.Kinds.ps shows.Kinds.r shows.Reads.Post
 shows-agrees κs args a b x y p q = agree p q
+
+pub is-received-agrees : Agrees 0 is-received.Kinds.ps is-received.Kinds.r is-received.Reads.Post
+is-received-agrees κs args a b x y p q = agree p q

@@ -1,18 +1,17 @@
--- Laws of a written form: each refusal and the answer, as the writing calls come to them, and what they mean for every form: a refused call leaves the output as it was, an answered one
--- changes no byte beyond those sent, and any two permitted answers agree.
+-- Laws of a written form: each refusal and the answer, as the writing calls come to them, and what they mean for every form: a refused call leaves the output as it was, an
+-- answered one changes no byte beyond those sent, and any two permitted answers agree.
 -- Assumes nothing.
-use Prim.Native.Nat.{ℕ, _+_, _-_, _≤_, _<_}
+use Prim.Native.Nat.{ℕ, _-_, _≤_, _<_}
 use native.Mathlib.Omega.{arith}
 use mathlib.Core.Bool.{Bool, true, false, cond}
-use mathlib.Core.List.{List, [], _∷_, _++_}
+use mathlib.Core.List.{List, []}
 use mathlib.Core.Path.{_≡_, refl, sym, ap, _∙_}
 use lib.ListN.{length, take, drop}
 use lib.Seq.{take-at, drop-at}
 use lib.Dec.{leb, eqb}
-use borrow.Author.Tests.{le-leb, lt-leb, eq-eqb, ne-eqb, leb-true, eqb-true}
+use borrow.Author.Tests.{le-leb, lt-leb, ne-eqb, leb-true}
 use Rattle.laws.proofs.Agree.{agree}
-use Rattle.laws.proofs.Booleans.{held}
-use Rattle.octets.specs.Put.{put, front}
+use Rattle.octets.specs.Put.{front}
 use Rattle.octets.proofs.PutLaws.{put-front}
 use Rattle.writing.specs.Form.{Form, refusalOf, sentBytes, sentOf, Wrote}
 use Rattle.writing.specs.Inner.{Put}
@@ -46,24 +45,25 @@ module _ (f : Form) (o : List ℕ) where
           record { answer = rw c (simp e); out = p .out ∙ (put-front o (f .pdu) ∙ simp e) }
 
 -- ---- what every form promises
+
+-- no refusal: the contents are good, the PDU-length keeps the limit, the PDU has room and is what is sent
+pub record Answered (f : Form) (room : ℕ) : Type 0 where
+  pub good : f .good ≡ true
+  pub limit : length (f .pdu) - 6 ≤ f .most
+  pub space : length (f .pdu) ≤ room
+  pub sent : sentBytes f room ≡ f .pdu
+
+pub answered : (f : Form) (room : ℕ) → refusalOf f room ≡ 0 → Answered f room
+unfolding refusalOf sentBytes
+answered f room z = go (f .good) (leb (length (f .pdu) - 6) (f .most)) (leb (length (f .pdu)) room) refl refl refl z
+  where
+    go : (a b c : Bool) → f .good ≡ a → leb (length (f .pdu) - 6) (f .most) ≡ b → leb (length (f .pdu)) room ≡ c → _≡_ {A = ℕ} (cond a (cond b (cond c 0 2) 5) 4) 0 → Answered f room
+    go true true true p q r e = record { good = p; limit = leb-true _ _ q; space = leb-true _ _ r; sent = simp z }
+    go true true false p q r e = absurd (omega arith)
+    go true false c p q r e = absurd (omega arith)
+    go false b c p q r e = absurd (omega arith)
+
 module _ (f : Form) (o : List ℕ) where
-  -- no refusal: the contents are good, the PDU-length keeps the limit, the PDU has room
-  pub record Answered : Type 0 where
-    pub good : f .good ≡ true
-    pub limit : length (f .pdu) - 6 ≤ f .most
-    pub room : length (f .pdu) ≤ length o
-    pub sent : sentBytes f (length o) ≡ f .pdu
-
-  pub answered : refusalOf f (length o) ≡ 0 → Answered
-  unfolding refusalOf sentBytes
-  answered z = go (f .good) (leb (length (f .pdu) - 6) (f .most)) (leb (length (f .pdu)) (length o)) refl refl refl z
-    where
-      go : (a b c : Bool) → f .good ≡ a → leb (length (f .pdu) - 6) (f .most) ≡ b → leb (length (f .pdu)) (length o) ≡ c → _≡_ {A = ℕ} (cond a (cond b (cond c 0 2) 5) 4) 0 → Answered
-      go true true true p q r e = record { good = p; limit = leb-true _ _ q; room = leb-true _ _ r; sent = simp z }
-      go true true false p q r e = absurd (omega arith)
-      go true false c p q r e = absurd (omega arith)
-      go false b c p q r e = absurd (omega arith)
-
   module _ (r : Sent) (o′ : List ℕ) (w : Wrote f o r o′) where
     -- the refusal is the first that applies
     pub refusal-is : r .refusal ≡ refusalOf f (length o)
@@ -86,8 +86,8 @@ module _ (f : Form) (o : List ℕ) where
 
     -- an answered one sends the PDU, writes it at the start and changes no byte beyond it
     module _ (z : r .refusal ≡ 0) where
-      fine : Answered
-      fine = answered (sym refusal-is ∙ z)
+      fine : Answered f (length o)
+      fine = answered f (length o) (sym refusal-is ∙ z)
 
       pub sent-count : r .count ≡ length (f .pdu)
       unfolding sentOf

@@ -1,6 +1,7 @@
 pub mod PutLaws
-pub mod ContextLaws
 pub mod FormLaws
-pub mod FrameLaws
-pub mod AssociateLaws
 pub mod TenLaws
+pub mod DataLaws
+pub mod Agree
+pub mod Examples
+pub mod Many

@@ -1,27 +1,23 @@
--- Laws of the ten-byte PDUs and of a P-DATA-TF.
+-- Laws of the ten-byte PDUs.
 -- Assumes nothing.
-use Prim.Native.Nat.{ℕ, zero, suc, _+_, _-_, _≤_, _<_}
+use Prim.Native.Nat.{ℕ, zero, suc, _≤_, _<_}
 use native.Mathlib.Omega.{arith}
-use mathlib.Core.Bool.{Bool, true, false, not, _&&_, cond}
-use mathlib.Core.List.{List, [], _∷_, _++_}
+use mathlib.Core.Bool.{Bool, true, false, not}
+use mathlib.Core.List.{List, [], _∷_}
 use mathlib.Core.Path.{_≡_, refl, sym, ap, _∙_}
-use lib.ListN.{length, set, getD, List·getD-eq-default}
+use lib.ListN.{length, set, List·getD-eq-default}
 use lib.Dec.{leb, eqb}
 use borrow.Author.Needs.{needs}
-use borrow.Author.Tests.{le-leb, lt-leb, eq-eqb, ne-eqb, not-true, not-false}
-use Rattle.octets.specs.Octets.{four}
-use Rattle.octets.specs.Put.{put, placed, placeBehind, Placed}
+use borrow.Author.Tests.{eq-eqb, ne-eqb, leb-true, leb-false, not-true, not-false}
+use Rattle.octets.specs.Put.{Placed}
 use Rattle.octets.proofs.PutLaws.{put-none, placed-fits, behind-fits}
 use Rattle.judging.specs.Values.{rejectOk, abortOk}
-use Rattle.judging.specs.Data.{pdvsOk}
-use Rattle.writing.specs.Fields.{rejectOf, itemsOf, abortOf, rejectGood, itemsGood, abortGood}
+use Rattle.writing.specs.Fields.{rejectOf, abortOf, rejectGood, abortGood}
 use Rattle.writing.specs.Ten.{tens, tenOf, rejectBytes, abortBytes}
-use Rattle.writing.specs.Wire.{pduBytes}
-use Rattle.writing.specs.Form.{Form, Wrote, rejectForm, mostOf, dataForm, releaseRqForm, releaseRpForm, abortForm}
+use Rattle.writing.specs.Form.{Wrote, rejectForm, releaseRqForm, releaseRpForm, abortForm}
 use Rattle.writing.specs.Inner.{Put, tenForm}
 use Rattle.writing.specs.declared.Sent.{Sent}
-use Rattle.writing.proofs.PutLaws.{next-put}
-use Rattle.writing.proofs.FormLaws.{wrote-bad, wrote-long, wrote-short, wrote-fine}
+use Rattle.writing.proofs.FormLaws.{wrote-bad, wrote-short, wrote-fine}
 
 -- ---- `ten_of`
 module _ (w : ℕ) where
@@ -89,20 +85,33 @@ module _ (w : ℕ) where
 
 pub ruleset len-laws = (needs, len-none, len-past, len-ten)
 
+no-bytes : (l : List ℕ) → length l ≡ 0 → l ≡ []
+no-bytes [] e = refl
+no-bytes (x ∷ l) e = absurd (omega arith)
+
+-- a number that has bytes is one of the seven
+pub some-ten : (w n : ℕ) → n ≡ length (tenOf w) → (n ≡ 0 → ⊥) → 1 ≤ w
+some-ten zero n e k = absurd (k (e ∙ ap length (ten-none zero refl)))
+some-ten (suc w) n e k = omega arith
+
+pub within-seven : (w n : ℕ) → n ≡ length (tenOf w) → (n ≡ 0 → ⊥) → w ≤ 7
+within-seven w n e k = go (leb w 7) refl
+  where
+    go : (b : Bool) → leb w 7 ≡ b → w ≤ 7
+    go true q = leb-true w 7 q
+    go false q = absurd (k (e ∙ ap length (ten-past w (leb-false w 7 q))))
+
 module _ (o : List ℕ) where
   nothing-placed : Placed o 0 [] 0 o
   nothing-placed = record { behind = sym (behind-fits o 0 [] (omega arith)); out = sym (placed-fits o 0 [] (omega arith) ∙ put-none o 0) }
 
-  pub placed-none : (w : ℕ) → w ≡ 0 → Placed o 0 (tenOf w) 0 o
-  placed-none w e = rw (ten-none w e) nothing-placed
-
-  pub placed-past : (w : ℕ) → 7 < w → Placed o 0 (tenOf w) 0 o
-  placed-past w h = rw (ten-past w h) nothing-placed
+  pub placed-none : (w n : ℕ) → n ≡ length (tenOf w) → n ≡ 0 → Placed o 0 (tenOf w) 0 o
+  placed-none w n e z = rw (no-bytes (tenOf w) (sym e ∙ z)) nothing-placed
 
   pub placed-ten : (w r : ℕ) (t o′ : List ℕ) → t ≡ tenOf w → Placed o 0 t r o′ → Placed o 0 (tenOf w) r o′
   placed-ten w r t o′ e p = rw e at p
 
-pub ruleset placed-ten-laws = (needs, placed-none, placed-past, placed-ten)
+pub ruleset placed-ten-laws = (needs, some-ten, within-seven, placed-none, placed-ten)
 
 -- ---- `send`
 module _ (o t : List ℕ) (e : length t ≡ 10) where
@@ -160,46 +169,3 @@ module _ (source reason : ℕ) (o : List ℕ) (b : Bool) (e : b ≡ abortGood (a
   abort-wrote p o′ r t q w = rw (← e, not-false b t) (rw q at w)
 
 pub ruleset abort-laws = (needs, abort-refused, abort-wrote)
-
--- ---- `most_of`, `write_data`
-module _ (peer : ℕ) where
-  pub most-none : peer ≡ 0 → 16384 ≡ mostOf peer
-  unfolding mostOf
-  most-none e = simp (eq-eqb peer 0 e)
-
-  pub most-peer : (peer ≡ 0 → ⊥) → peer ≤ 16384 → peer ≡ mostOf peer
-  unfolding mostOf
-  most-peer n h = simp (ne-eqb peer 0 n, le-leb peer 16384 h)
-
-  pub most-over : (peer ≡ 0 → ⊥) → 16384 < peer → 16384 ≡ mostOf peer
-  unfolding mostOf
-  most-over n h = simp (ne-eqb peer 0 n, lt-leb peer 16384 h)
-
-pub ruleset most-laws = (needs, most-none, most-peer, most-over)
-
-module _ (peer : ℕ) (s o : List ℕ) (b : Bool) (e : b ≡ pdvsOk 3 s) where
-  pub data-refused : not b ≡ true → Wrote (dataForm peer (itemsOf s)) o (record { refusal = 4; count = 0 }) o
-  unfolding dataForm itemsGood
-  data-refused t = wrote-bad (dataForm peer (itemsOf s)) o (sym e ∙ not-true b t)
-
-  module _ (m : ℕ) (t : not b ≡ false) (q : m ≡ mostOf peer) where
-    data-good : pdvsOk 3 s ≡ true
-    data-good = sym e ∙ not-false b t
-
-    pub data-over : m < length s → Wrote (dataForm peer (itemsOf s)) o (record { refusal = 5; count = 0 }) o
-    unfolding dataForm itemsGood pduBytes
-    data-over h = wrote-long (dataForm peer (itemsOf s)) o data-good (omega arith)
-
-    module _ (h : length s ≤ m) where
-      pub data-short : length o < length s + 6 → Wrote (dataForm peer (itemsOf s)) o (record { refusal = 2; count = 0 }) o
-      unfolding dataForm itemsGood pduBytes
-      data-short l = wrote-short (dataForm peer (itemsOf s)) o data-good (omega arith) (omega arith)
-
-      pub data-fine : (x o₁ o₂ : List ℕ) (i r : ℕ) → length s + 6 ≤ length o → x ≡ 0x04 ∷ 0 ∷ four (length s) → Put o 0 x i o₁ → Put o₁ i s r o₂ → Wrote (dataForm peer (itemsOf s)) o (record { refusal = 0; count = r }) o₂
-      unfolding dataForm itemsGood pduBytes
-      data-fine x o₁ o₂ i r l k p w =
-          let n : length x ≡ 6 = ap length k in
-          let all : Put o 0 (x ++ s) r o₂ = next-put o x s o₁ 0 i p (omega arith) o₂ r w in
-          wrote-fine (dataForm peer (itemsOf s)) o data-good (omega arith) o₂ r (omega arith) (rw k at all)
-
-pub ruleset data-laws = (needs, data-refused, data-over, data-short, data-fine)

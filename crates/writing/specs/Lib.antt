@@ -2,4 +2,5 @@ pub mod Fields
 pub mod Ten
 pub mod Wire
 pub mod Form
+pub mod Cases
 pub mod Inner

@@ -1,15 +1,11 @@
-// Writes the seven PDUs, each in its one form, into a lent output.
-mod associate;
-mod contexts;
-mod frame;
+// Writes the ten-byte PDUs and a P-DATA-TF, each in its one form, into a lent output. (`associate` writes an RQ and an AC.)
+mod data;
 mod pieces;
 mod ten;
 
-pub use associate::write_accept;
-pub use associate::write_request;
+pub use data::write_data;
 pub use ten::ten_len;
 pub use ten::write_abort;
-pub use ten::write_data;
 pub use ten::write_reject;
 pub use ten::write_release_request;
 pub use ten::write_release_response;

@@ -1,16 +1,13 @@
-// The ten-byte PDUs, and a P-DATA-TF of PDV items.
+// The ten-byte PDUs.
 ghost use mathlib.Core.Path.{_≡_};
-ghost use mathlib.Core.Bool.{true};
-ghost use mathlib.Core.List.{_∷_, []};
-ghost use Prim.Native.Nat.{_≤_, _<_};
+ghost use Prim.Native.Nat.{_≤_};
 ghost use lib.ListN.{length};
 ghost use Rattle.octets.specs.Put.{Placed};
-ghost use Rattle.writing.specs.Fields.{rejectOf, abortOf, itemsOf, abortGood};
+ghost use Rattle.writing.specs.Fields.{rejectOf, abortOf, abortGood};
 ghost use Rattle.writing.specs.Ten.{tenOf};
-ghost use Rattle.writing.specs.Form.{Wrote, rejectForm, dataForm, releaseRqForm, releaseRpForm, abortForm, mostOf};
+ghost use Rattle.writing.specs.Form.{Wrote, rejectForm, releaseRqForm, releaseRpForm, abortForm};
 ghost use Rattle.writing.specs.Inner.{tenForm};
 use crate::Sent;
-use crate::pieces::header;
 use crate::pieces::put;
 
 fn ten_of(which: u8) -> [u8; 10]
@@ -55,10 +52,7 @@ pub fn ten_len(which: u8) -> usize
 pub fn write_ten(which: u8, out: &mut [u8]) -> usize
     ensures { λ r. ⌜ Placed (now (out .entry)) 0 (tenOf which) r (now (out .exit)) ⌝ }
 {
-    if which == 0 {
-        return 0;
-    }
-    if 7 < which {
+    if ten_len(which) == 0 {
         return 0;
     }
     let pdu = ten_of(which);
@@ -140,49 +134,4 @@ pub fn write_abort(source: u8, reason: u8, out: &mut [u8]) -> Sent
     pdu[8] = source;
     pdu[9] = reason;
     send(&pdu, out)
-}
-
-// The greatest PDU-length that may be sent to a peer with this maximum.
-fn most_of(peer: u32) -> usize
-    ensures { λ r. ⌜ (r ≡ mostOf peer) × (r ≤ 16384) ⌝ }
-{
-    if peer == 0 {
-        return 16384;
-    }
-    if peer <= 16384 {
-        return peer as usize;
-    }
-    16384
-}
-
-// Writes a P-DATA-TF of PDV items in wire form to the start of the output; a peer maximum of 0 is no limit.
-pub fn write_data(items: &[u8], peer: u32, out: &mut [u8]) -> Sent
-    ensures { λ r. ⌜ Wrote (dataForm peer (itemsOf (now (items .entry)))) (now (out .entry)) r (now (out .exit)) ⌝ }
-{
-    if !judging::pdvs_ok(3, items) {
-        return Sent {
-            refusal: 4,
-            count: 0,
-        };
-    }
-    let n = items.len();
-    if most_of(peer) < n {
-        return Sent {
-            refusal: 5,
-            count: 0,
-        };
-    }
-    if out.len() < n + 6 {
-        return Sent {
-            refusal: 2,
-            count: 0,
-        };
-    }
-    let head = header(0x04, n as u32);
-    let e = put(out, 0, &head);
-    let k = put(out, e, items);
-    Sent {
-        refusal: 0,
-        count: k,
-    }
 }

@@ -22,6 +22,9 @@ returns-3 : tie.Need-returns-3
 unfolding good21H
 returns-3 c = search bodied
 
+shared-slice-read-transfer-ok : tie.Need-shared-slice-read-transfer-ok
+shared-slice-read-transfer-ok c = search bodied
+
 sub-transfer-ok : tie.Need-sub-transfer-ok
 sub-transfer-ok c = search bodied
 
@@ -47,6 +50,7 @@ answered-ok-spec =
     returns-2
     shared-slice-read-if3
     returns-3
+    shared-slice-read-transfer-ok
     sub-transfer-ok
     part-transfer-ok-start
     part-transfer-ok-end

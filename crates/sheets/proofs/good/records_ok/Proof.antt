@@ -1,4 +1,4 @@
--- `records_ok` meets its contract.
+-- `records_ok` meets its contract. The records before `at` are good.
 -- Assumes nothing.
 use Prim.Native.Nat.{_-_, _%_, _≤_}
 use mathlib.Core.Path.{_≡_}

@@ -1,4 +1,4 @@
--- `zeros` meets its contract.
+-- `zeros` meets its contract. The bytes before i are zero.
 -- Assumes nothing.
 use Prim.Native.Nat.{_-_, _≤_}
 use mathlib.Core.Path.{_≡_}

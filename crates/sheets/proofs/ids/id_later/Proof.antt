@@ -1,4 +1,4 @@
--- `id_later` meets its contract.
+-- `id_later` meets its contract. No record from the first place up to `at` has the ID.
 -- Assumes nothing.
 use Prim.Native.Nat.{_-_, _%_, _≤_}
 use mathlib.Core.Path.{_≡_}

@@ -1,4 +1,4 @@
--- `runs_differ` meets its contract.
+-- `runs_differ` meets its contract. The IDs of the runs before `at` come once; the rest decides.
 -- Assumes nothing.
 use Prim.Native.Nat.{_-_, _%_, _≤_}
 use mathlib.Core.Path.{_≡_}

@@ -8,10 +8,10 @@ pub write-ten-spec : {M : Type 1} → statement M
 write-ten-spec =
     tie.close
     (tie.spec
+    (λ c κs. search placed-ten-laws)  -- ten-len-requires
     (λ c. search placed-ten-laws)  -- returns
-    (λ c. search placed-ten-laws)  -- returns-2
     (λ c κs. search placed-ten-laws)  -- ten-of-requires
     (λ c. search placed-ten-laws)  -- slice-aggregate-put
     (λ c κs. search placed-ten-laws)  -- put-requires
     (λ c. search placed-ten-laws)  -- same-length
-    (λ c. search placed-ten-laws))  -- returns-3
+    (λ c. search placed-ten-laws))  -- returns-2

@@ -1,0 +1,5 @@
+pub mod PieceLaws
+pub mod ContextLaws
+pub mod FrameLaws
+pub mod AssociateLaws
+pub mod Agree

@@ -1,0 +1,83 @@
+// Writes an A-ASSOCIATE-RQ and an A-ASSOCIATE-AC, each in its one form, into a lent output.
+mod contexts;
+mod frame;
+mod pieces;
+
+ghost use mathlib.Core.Path.{_≡_};
+ghost use mathlib.Core.List.{_++_};
+ghost use lib.ListN.{length, replicate};
+ghost use Rattle.writing.specs.Fields.{rqOf, acOf, rqGood, acGood};
+ghost use Rattle.writing.specs.Form.{rqForm, acForm, Wrote};
+use crate::frame::write_frame;
+use writing::Sent;
+
+// The 64 bytes behind the version of an RQ: the titles, and 32 reserved bytes.
+fn titles_of(called: &[u8], calling: &[u8]) -> [u8; 64]
+    requires { ⌜ (length (now called) ≡ 16) × (length (now calling) ≡ 16) ⌝ }
+    ensures { λ r. ⌜ r ≡ now (called .entry) ++ (now (calling .entry) ++ replicate 32 0) ⌝ }
+{
+    let mut m = [0u8; 64];
+    octets::put(&mut m, 0, called);
+    octets::put(&mut m, 16, calling);
+    m
+}
+
+fn request_good(called: &[u8], calling: &[u8], application: &[u8], sheet: &[u8]) -> bool
+    ensures { λ r. ⌜ r ≡ rqGood (rqOf (now (called .entry)) (now (calling .entry)) (now (application .entry)) (now (sheet .entry))) ⌝ }
+{
+    if !names::title_ok(called) {
+        return false;
+    }
+    if !names::title_ok(calling) {
+        return false;
+    }
+    if !names::name_ok(application) {
+        return false;
+    }
+    sheets::proposal_ok(sheet)
+}
+
+// Writes an A-ASSOCIATE-RQ to the start of the output.
+pub fn write_request(
+    called: &[u8],
+    calling: &[u8],
+    application: &[u8],
+    sheet: &[u8],
+    out: &mut [u8],
+) -> Sent
+    ensures { λ r. ⌜ Wrote (rqForm (rqOf (now (called .entry)) (now (calling .entry)) (now (application .entry)) (now (sheet .entry)))) (now (out .entry)) r (now (out .exit)) ⌝ }
+{
+    if !request_good(called, calling, application, sheet) {
+        return Sent {
+            refusal: 4,
+            count: 0,
+        };
+    }
+    let middle = titles_of(called, calling);
+    write_frame(false, &middle, application, sheet, out)
+}
+
+fn accept_good(echoed: &[u8], application: &[u8], sheet: &[u8]) -> bool
+    ensures { λ r. ⌜ r ≡ acGood (acOf (now (echoed .entry)) (now (application .entry)) (now (sheet .entry))) ⌝ }
+{
+    if echoed.len() != 64 {
+        return false;
+    }
+    if !names::name_ok(application) {
+        return false;
+    }
+    sheets::answers_ok(sheet)
+}
+
+// Writes an A-ASSOCIATE-AC to the start of the output; `echoed` are the RQ's PDU bytes 11 to 74.
+pub fn write_accept(echoed: &[u8], application: &[u8], sheet: &[u8], out: &mut [u8]) -> Sent
+    ensures { λ r. ⌜ Wrote (acForm (acOf (now (echoed .entry)) (now (application .entry)) (now (sheet .entry)))) (now (out .entry)) r (now (out .exit)) ⌝ }
+{
+    if !accept_good(echoed, application, sheet) {
+        return Sent {
+            refusal: 4,
+            count: 0,
+        };
+    }
+    write_frame(true, echoed, application, sheet, out)
+}

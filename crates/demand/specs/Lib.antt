@@ -1,0 +1,5 @@
+pub mod Calls
+pub mod Every
+pub mod Refused
+pub mod Data
+pub mod ShutOut

@@ -1,0 +1,92 @@
+-- Worked examples of reading: antt computes both sides.
+-- Assumes nothing.
+use Prim.Native.Nat.{ℕ}
+use mathlib.Core.List.{List, [], _∷_, _++_}
+use mathlib.Core.Path.{_≡_, refl}
+use lib.ListN.{length, replicate}
+use Rattle.laws.specs.Lists.{among, distinct}
+use Rattle.laws.specs.Text.{bytes}
+use Rattle.octets.specs.Octets.{four, be16, be32}
+use Rattle.names.specs.Name.{nameOk}
+use Rattle.names.specs.Title.{titleOk}
+use Rattle.items.specs.Items.{step, walkIn, walk, filled, bodies, place, keeps}
+use Rattle.items.specs.Wire.{itemBytes}
+use Rattle.contents.specs.Contents.{subGood, subNext, good20H, one, transferOk, good21H, good50H, contextGood, topGood, topNext, ids, itemsOk, maximumIn}
+use Rattle.judging.specs.Data.{pdvStep, pdvsIn, pdvs, pdvOk, pdvsOk}
+use Rattle.judging.specs.Values.{rejectReasons, rejectOk, abortOk}
+use Rattle.judging.specs.Pdu.{whole, requestOk, acceptOk, rejectPduOk, dataOk, abortPduOk, validAs, kindOf, maximumOf}
+use Rattle.sheets.specs.Sheet.{recordBytes, contextRecords, sheetOf, answerSheetOf}
+use Rattle.reading.specs.Associate.{contextOf, answerOf, proposed, answered, applicationOf, applicationAt, sheetIn, associateOf, filling}
+use Rattle.reading.specs.Data.{pdvsOf, pdv, startOf, dataOf, fragmentOf}
+use Rattle.reading.specs.Values.{rejectOf, abortOf}
+
+-- ---- a P-DATA-TF with a fragment of three bytes and an empty one
+abbrev two-pdvs : List ℕ
+two-pdvs = 4 ∷ 0 ∷ (four 15 ++ (0 ∷ 0 ∷ 0 ∷ 5 ∷ 1 ∷ 0xFC ∷ 7 ∷ 8 ∷ 9 ∷ 0 ∷ 0 ∷ 0 ∷ 2 ∷ 3 ∷ 2 ∷ []))
+
+-- the first fragment starts at 12; the control byte is as received
+pub first-pdv : dataOf two-pdvs 0 ≡ record { refusal = 0; id = 1; control = 0xFC; start = 12; len = 3 }
+unfolding dataOf pdvsOf pdv startOf kindOf validAs whole dataOk pdvStep pdvsIn pdvs pdvOk pdvsOk be16 be32
+first-pdv = refl
+
+-- an empty fragment at the end starts where the PDU ends
+pub second-pdv : dataOf two-pdvs 1 ≡ record { refusal = 0; id = 3; control = 2; start = 21; len = 0 }
+unfolding dataOf pdvsOf pdv startOf kindOf validAs whole dataOk pdvStep pdvsIn pdvs pdvOk pdvsOk be16 be32
+second-pdv = refl
+
+pub no-third : dataOf two-pdvs 2 ≡ record { refusal = 4; id = 0; control = 0; start = 0; len = 0 }
+unfolding dataOf pdvsOf pdv startOf kindOf validAs whole dataOk pdvStep pdvsIn pdvs pdvOk pdvsOk be16 be32
+no-third = refl
+
+pub own-part : fragmentOf two-pdvs 0 ≡ 7 ∷ 8 ∷ 9 ∷ []
+unfolding fragmentOf dataOf pdvsOf pdv startOf kindOf validAs whole dataOk pdvStep pdvsIn pdvs pdvOk pdvsOk be16 be32
+own-part = refl
+
+-- ---- an ABORT of source 0 with reason 9 is read; one of source 1 is refused, and so is an RJ
+pub abort-nine : abortOf (7 ∷ 0 ∷ 0 ∷ 0 ∷ 0 ∷ 4 ∷ 0 ∷ 0 ∷ 0 ∷ 9 ∷ []) ≡ record { refusal = 0; source = 0; reason = 9 }
+unfolding abortOf kindOf validAs whole abortPduOk abortOk among be16 be32
+abort-nine = refl
+
+pub abort-one : abortOf (7 ∷ 0 ∷ 0 ∷ 0 ∷ 0 ∷ 4 ∷ 0 ∷ 0 ∷ 1 ∷ 0 ∷ []) ≡ record { refusal = 7; source = 0; reason = 0 }
+unfolding abortOf kindOf validAs whole abortPduOk abortOk among be16 be32
+abort-one = refl
+
+pub reject-version : rejectOf (3 ∷ 0 ∷ 0 ∷ 0 ∷ 0 ∷ 4 ∷ 0xFF ∷ 1 ∷ 2 ∷ 2 ∷ []) ≡ record { refusal = 0; result = 1; source = 2; reason = 2 }
+unfolding rejectOf kindOf validAs whole rejectPduOk rejectReasons rejectOk among be16 be32
+reject-version = refl
+
+-- ---- an RQ with a skipped item in front, and one context with two transfer syntaxes
+abbrev implicit : List ℕ
+implicit = bytes "1.2.840.10008.1.2"
+
+abbrev explicit : List ℕ
+explicit = bytes "1.2.840.10008.1.2.1"
+
+abbrev verification : List ℕ
+verification = bytes "1.2.840.10008.1.1"
+
+abbrev items : List ℕ
+items =
+    itemBytes 0xF0 (1 ∷ 2 ∷ [])
+    ++ (itemBytes 0x10 (bytes "1.2.840.10008.3.1.1.1")
+    ++ (itemBytes 0x20 (5 ∷ 0 ∷ 0 ∷ 0 ∷ (itemBytes 0x30 verification ++ (itemBytes 0x40 implicit ++ itemBytes 0x40 explicit)))
+    ++ itemBytes 0x50 (itemBytes 0x51 (0 ∷ 0 ∷ 0x80 ∷ 0 ∷ []))))
+
+abbrev body : List ℕ
+body = 0 ∷ 3 ∷ 0 ∷ 0 ∷ (bytes "STORE-EXOTIC    " ++ (bytes "STORE-EQUINE    " ++ (replicate 32 0 ++ items)))
+
+abbrev request : List ℕ
+request = 1 ∷ 0 ∷ (four (length body) ++ body)
+
+pub request-read : associateOf 1 request 300 ≡ record { refusal = 0; version = 3; «application_at» = 84; «application_len» = 21; maximum = 32768; records = 2 }
+unfolding associateOf sheetIn proposed contextOf contextRecords sheetOf recordBytes applicationOf applicationAt kindOf maximumOf maximumIn validAs whole requestOk subGood subNext good20H one good50H contextGood topGood topNext ids itemsOk step walkIn walk filled bodies place keeps itemBytes nameOk titleOk be16 be32 among distinct
+request-read = refl
+
+pub request-filled : filling 1 request 300 ≡ recordBytes 5 0 verification implicit ++ recordBytes 5 0 verification explicit
+unfolding filling sheetIn proposed contextOf contextRecords sheetOf recordBytes kindOf validAs whole requestOk subGood subNext good20H one good50H contextGood topGood topNext ids itemsOk step walkIn walk filled bodies place keeps itemBytes nameOk titleOk be16 be32 among distinct
+request-filled = refl
+
+-- one byte too little room: 2, and not the number needed
+pub request-narrow : associateOf 1 request 263 ≡ record { refusal = 2; version = 0; «application_at» = 0; «application_len» = 0; maximum = 0; records = 0 }
+unfolding associateOf sheetIn proposed contextOf contextRecords sheetOf recordBytes kindOf validAs whole requestOk subGood subNext good20H one good50H contextGood topGood topNext ids itemsOk step walkIn walk filled bodies place keeps itemBytes nameOk titleOk be16 be32 among distinct
+request-narrow = refl

@@ -1,0 +1,62 @@
+// A P-DATA-TF of PDV items.
+ghost use mathlib.Core.Path.{_≡_};
+ghost use mathlib.Core.List.{_∷_};
+ghost use Prim.Native.Nat.{_≤_};
+ghost use Rattle.octets.specs.Octets.{four};
+ghost use Rattle.writing.specs.Fields.{itemsOf};
+ghost use Rattle.writing.specs.Form.{Wrote, mostOf, dataForm};
+use crate::Sent;
+use crate::pieces::put;
+
+// A PDU's first six bytes, with its PDU-length.
+fn header(kind: u8, n: u32) -> [u8; 6]
+    ensures { λ r. ⌜ r ≡ kind ∷ 0 ∷ four n ⌝ }
+{
+    let l = octets::four_of(n);
+    [kind, 0, l[0], l[1], l[2], l[3]]
+}
+
+// The greatest PDU-length that may be sent to a peer with this maximum.
+fn most_of(peer: u32) -> usize
+    ensures { λ r. ⌜ (r ≡ mostOf peer) × (r ≤ 16384) ⌝ }
+{
+    if peer == 0 {
+        return 16384;
+    }
+    if peer <= 16384 {
+        return peer as usize;
+    }
+    16384
+}
+
+// Writes a P-DATA-TF of PDV items in wire form to the start of the output; a peer maximum of 0 is no limit.
+pub fn write_data(items: &[u8], peer: u32, out: &mut [u8]) -> Sent
+    ensures { λ r. ⌜ Wrote (dataForm peer (itemsOf (now (items .entry)))) (now (out .entry)) r (now (out .exit)) ⌝ }
+{
+    if !judging::pdvs_ok(3, items) {
+        return Sent {
+            refusal: 4,
+            count: 0,
+        };
+    }
+    let n = items.len();
+    if most_of(peer) < n {
+        return Sent {
+            refusal: 5,
+            count: 0,
+        };
+    }
+    if out.len() < n + 6 {
+        return Sent {
+            refusal: 2,
+            count: 0,
+        };
+    }
+    let head = header(0x04, n as u32);
+    let e = put(out, 0, &head);
+    let k = put(out, e, items);
+    Sent {
+        refusal: 0,
+        count: k,
+    }
+}
