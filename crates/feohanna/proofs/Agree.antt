@@ -1,11 +1,11 @@
 -- Any two permitted answers agree, for each function, and so do the numbers and the buffers that it was lent, as it leaves them.
 -- Assumes nothing.
+use mathlib.Core.Path.{refl, ap}
 use Prim.Native.Nat.{ℕ}
-use mathlib.Core.Path.{_≡_, refl, ap}
-use mathlib.Core.List.{[]}
+use mathlib.Core.List.{List, []}
 use denote.Ref.{now}
 use Rattle.laws.proofs.Agree.{agree, AgreesLent}
-use Rattle.reading.specs.declared.Associate.{Associate}
+use Rattle.reading.specs.declared.associate.Associate.{Associate}
 use Rattle.feohanna.specs.Numbers.{Handed, handed, numbers, told}
 use Rattle.feohanna.specs.Fields.{associate, reject, abort, pdv}
 use Rattle.feohanna.proofs.calls.feo_raw_receive as receive
@@ -57,11 +57,11 @@ pub fresh-agrees : AgreesLent 6 fresh.Kinds.ps fresh.Kinds.r fresh.Reads.Post
     (λ κs x. numbers (now (x .0)) (now (x .1 .0)) (now (x .1 .1 .0)) (now (x .1 .1 .1 .0)) (now (x .1 .1 .1 .1 .0)) (now (x .1 .1 .1 .1 .1 .0)))
 fresh-agrees κs args a b x y p q = (refl, agree p q)
 
-pub read-request-agrees : AgreesLent 7 read-request.Kinds.ps read-request.Kinds.r read-request.Reads.Post
+pub read-request-agrees : AgreesLent {L = Associate × List ℕ} 7 read-request.Kinds.ps read-request.Kinds.r read-request.Reads.Post
     (λ κs x. (associate 0 (now (x .1 .1 .0)) (now (x .1 .1 .1 .0)) (now (x .1 .1 .1 .1 .0)) (now (x .1 .1 .1 .1 .1 .0)) (now (x .1 .1 .1 .1 .1 .1 .0)), now (x .1 .0)))
 read-request-agrees κs args a b x y p q = (ap (λ f. f .refusal) (agree (p .answer) (q .answer)), λ i. (others (agree (p .answer) (q .answer) i), agree (p .sheet) (q .sheet) i))
 
-pub read-accept-agrees : AgreesLent 7 read-accept.Kinds.ps read-accept.Kinds.r read-accept.Reads.Post
+pub read-accept-agrees : AgreesLent {L = Associate × List ℕ} 7 read-accept.Kinds.ps read-accept.Kinds.r read-accept.Reads.Post
     (λ κs x. (associate 0 (now (x .1 .1 .0)) (now (x .1 .1 .1 .0)) (now (x .1 .1 .1 .1 .0)) (now (x .1 .1 .1 .1 .1 .0)) (now (x .1 .1 .1 .1 .1 .1 .0)), now (x .1 .0)))
 read-accept-agrees κs args a b x y p q = (ap (λ f. f .refusal) (agree (p .answer) (q .answer)), λ i. (others (agree (p .answer) (q .answer) i), agree (p .sheet) (q .sheet) i))
 

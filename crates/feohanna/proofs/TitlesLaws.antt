@@ -1,7 +1,7 @@
 -- The number and the value of each answer of the title check.
 -- Assumes nothing.
 use Prim.Native.Nat.{ℕ}
-use mathlib.Core.Path.{_≡_, refl}
+use mathlib.Core.Path.{_≡_}
 use mathlib.Core.List.{List}
 use borrow.Author.Needs.{needs}
 use Rattle.names.specs.declared.own.Known.{Known}

@@ -4,7 +4,7 @@
 --     lends, back    lent as `&mut` for κ′, and back at the list that the callee left
 --     shows, unshow  lent as `&` for κ′, and back as it was
 -- Assumes nothing but what every walk is given.
-use mathlib.Core.Path.{_≡_, refl, sym, ap}
+use mathlib.Core.Path.{_≡_, sym, ap}
 use Prim.Native.Nat.{ℕ}
 use mathlib.Core.List.{List, [], _∷_}
 use lib.ListN.{length}

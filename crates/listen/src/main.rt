@@ -101,49 +101,39 @@ fn offered(piece: &[u8], w: Window) -> &[u8] {
     &piece[at..end]
 }
 
-// The window after a call. One that uses none of its bytes, which none does, would lose them.
+// Where the next call starts. A call that uses none of its bytes, which none does, would lose them.
+fn behind(at: usize, end: usize, used: usize) -> usize {
+    if used == 0 {
+        return end;
+    }
+    if end < at {
+        return end;
+    }
+    if end - at < used {
+        return end;
+    }
+    at + used
+}
+
+// The window after a call.
 fn past(w: Window, used: usize) -> Window
     requires { ⌜ 0 < w .turns ⌝ }
     ensures { λ r. ⌜ r .turns < w .turns ⌝ }
 {
-    let at = w.at;
     let end = w.end;
     let ended = w.ended;
     let turns = w.turns;
+    let next = behind(w.at, end, used);
     if ended {
         return Window {
-            at: 0,
-            end: 0,
+            at: next,
+            end,
             ended,
             turns: 0,
         };
     }
-    if used == 0 {
-        return Window {
-            at: end,
-            end,
-            ended,
-            turns: turns - 1,
-        };
-    }
-    if end < at {
-        return Window {
-            at: end,
-            end,
-            ended,
-            turns: turns - 1,
-        };
-    }
-    if end - at < used {
-        return Window {
-            at: end,
-            end,
-            ended,
-            turns: turns - 1,
-        };
-    }
     Window {
-        at: at + used,
+        at: next,
         end,
         ended,
         turns: turns - 1,
