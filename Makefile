@@ -13,3 +13,12 @@ run:
 # The gate: every proof, every must-fail edit, every program, every other test.
 test:
 	@bash .ci/run
+
+# Fresh calls by the second program against replay: make fuzz SEED=7 COUNT=100000
+fuzz:
+	@rt check replay 2>&1 | grep '^rt: replay'
+	@SEED=$(SEED) COUNT=$(COUNT) bash tests/fuzz/run
+
+# Ratios to memcpy, to the second program and to DCMTK, for docs/BENCH.md.
+bench:
+	@bash bench/run

@@ -1,0 +1,14 @@
+-- The first bytes of a buffer, to look at: a front that fits has its own length.
+-- Assumes nothing.
+use lib.Seq.{length-take-le}
+use borrow.Author.Needs.{needs}
+use Rattle.replay.proofs.buffers.seen.Statement.{statement}
+use Rattle.replay.proofs.buffers.seen.Tie as tie
+
+pub seen-spec : {M : Type 1} → statement M
+seen-spec =
+    tie.close
+    (tie.spec
+    (λ c. search (needs, length-take-le))  -- slice-aggregate-result
+    (λ c. search needs)  -- returns
+    (λ c. search needs))  -- returns-2

@@ -1,0 +1,98 @@
+"""Makes replay's calls of recorded streams, and holds two answers to them together.
+
+    calls.py SECOND REPLAY..    the second program, and the words that start replay
+"""
+import os
+import subprocess
+import sys
+
+HERE = os.path.dirname(os.path.abspath(__file__))
+KINDS = ["no valid PDU", "RQ", "AC", "RJ", "P-DATA-TF", "RELEASE-RQ", "RELEASE-RP", "ABORT"]
+# the state that waits for a PDU of a type, and its marks: ARTIM, requestor
+WAITS = {1: "2 0 0 1 0", 2: "5 0 0 0 1", 3: "5 0 0 0 1", 4: "6 0 0 0 0", 5: "6 0 0 0 0", 6: "7 0 0 0 0", 7: "6 0 0 0 0"}
+
+
+def words(data):
+    return data.hex() or "-"
+
+
+def pdus(stream):
+    """The PDUs of a stream, by their length fields; a last part that is not whole."""
+    at = 0
+    while at < len(stream):
+        end = at + 6 + int.from_bytes(stream[at + 2 : at + 6], "big")
+        yield at, stream[at:end]
+        at = end
+
+
+def pdvs(body):
+    at, n = 0, 0
+    while at + 4 <= len(body):
+        at += 4 + int.from_bytes(body[at : at + 4], "big")
+        n += 1
+    return n
+
+
+def reading(pdu):
+    """The calls that read a PDU, by its type."""
+    kind = pdu[0]
+    text = words(pdu)
+    if kind == 1:
+        called, calling = words(pdu[10:26]), words(pdu[26:42])
+        return [f"Q {text} 66000", f"V {called}", f"V {calling}", f"E {called} {calling}", f"T {called} {called}"]
+    if kind == 4:
+        return [f"D {text} {k}" for k in range(pdvs(pdu[6:]) + 1)]
+    return [{2: f"A {text} 66000", 3: f"J {text}", 7: f"B {text}"}.get(kind, f"K {text}")]
+
+
+def receiving(pdu):
+    """The calls that receive a PDU, in two pieces, in the state that waits for it."""
+    half = min(len(pdu) // 2, 17000)
+    rest = pdu[half : half + 17000]
+    return [f"r {WAITS[pdu[0]]} 0 16390 - 16390 {words(pdu[:half])}", f"r = {words(rest)}"]
+
+
+def answers(command, lines):
+    run = subprocess.run(command, input="".join(line + "\n" for line in lines).encode(), stdout=subprocess.PIPE, check=True)
+    return run.stdout.decode().split("\n")[:-1]
+
+
+def main():
+    second, replay = sys.argv[1], sys.argv[2:]
+    calls = []  # where from, the call, what its answer starts with, or None
+    seen = dict.fromkeys(KINDS, 0)
+    for line in open(os.path.join(HERE, "expected")):
+        name, kinds, *fields = line.split()
+        stream = open(os.path.join(HERE, name), "rb").read()
+        found = list(pdus(stream))
+        if kinds == "long":
+            calls += [(name, call, None) for call in receiving(stream)]
+            continue
+        if len(found) != len(kinds.split(",")):
+            sys.exit(f"{name}: {len(found)} PDUs, {kinds} expected")
+        for (at, pdu), kind in zip(found, kinds.split(",")):
+            where = f"{name} at {at}"
+            seen[KINDS[int(kind)]] += 1
+            calls.append((where, f"K {words(pdu)}", [kind]))
+            calls += [(where, call, None) for call in reading(pdu) + receiving(pdu)]
+        if fields:
+            maximum, records = fields
+            read = next(k for k, (_, call, _) in enumerate(calls) if call[0] in "QA" and calls[k][0] == f"{name} at 0")
+            calls[read] = (calls[read][0], calls[read][1], ["0", "1", None, None, maximum, records])
+    count = len(calls)
+    for line in open(os.path.join(HERE, "names")):
+        good, name, source = line.rstrip("\n").split(" ", 2)
+        calls.append((source, f"N {words(name.encode())}", [good]))
+    lines = [call for _, call, _ in calls]
+    both = zip(calls, answers([second, "answer"], lines), answers(replay, lines))
+    for (where, call, expected), theirs, ours in both:
+        if ours != theirs:
+            sys.exit(f"{where}: {call[:200]}\n  second: {theirs}\n  replay: {ours}")
+        for got, wanted in zip(ours.split(), expected or []):
+            if wanted is not None and got != wanted:
+                sys.exit(f"{where}: {call[:200]}\n  answer: {ours}\n  expected: {' '.join(w or '*' for w in expected)}")
+    kinds = ", ".join(f"{n} {kind}" for kind, n in seen.items() if n)
+    print(f"{kinds}; {count} calls on them and {len(calls) - count} names answered alike and as expected")
+
+
+main()
