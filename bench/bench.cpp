@@ -1,0 +1,226 @@
+// Feohanna measured in one process and on the same bytes: receiving against memcpy, an RQ read and written against the second program and against DCMTK.
+//     bench                     a line for each measurement: its group, what, against what, ns per call of both, their ratio
+//     bench WHAT WHO TIMES      runs one of them so often, for an instruction counter; a wrong WHAT lists them
+#include "feohanna.h"
+#include "peers.h"
+#include <algorithm>
+#include <chrono>
+#include <cstdio>
+#include <cstdlib>
+#include <cstring>
+#include <functional>
+#include <string>
+#include <vector>
+
+typedef std::vector<uint8_t> Bytes;
+
+struct Contender {
+    std::string who;
+    std::function<size_t()> call;
+};
+
+// The first contender is feohanna.
+struct Measured {
+    std::string group, what;
+    std::vector<Contender> contenders;
+};
+
+static void must(bool good, const char *what)
+{
+    if (good)
+        return;
+    std::fprintf(stderr, "bench: %s\n", what);
+    std::exit(1);
+}
+
+// ---- receiving
+
+static const size_t PDUS = 64;
+
+// PDUS P-DATA-TF PDUs of PDU-length 16,384, each with one PDV.
+static Bytes stream()
+{
+    Bytes s;
+    for (size_t k = 0; k < PDUS; k++) {
+        const uint8_t head[12] = { 4, 0, 0, 0, 0x40, 0, 0, 0, 0x3F, 0xFC, 1, 0 };
+        s.insert(s.end(), head, head + 12);
+        for (size_t i = 0; i < 16378; i++)
+            s.push_back((uint8_t)(i * 7 + k));
+    }
+    return s;
+}
+
+// Receives s in pieces of n bytes: the PDUs that were shown.
+static size_t receive(const Bytes &s, size_t n, uint8_t *gather)
+{
+    struct feo_assoc a = { 6, 0, 0, 0, 0, 0 };
+    struct feo_answer r;
+    uint8_t out[10];
+    size_t shown = 0;
+    for (size_t from = 0; from < s.size(); from += n) {
+        size_t end = std::min(from + n, s.size());
+        for (size_t at = from; at < end; at += r.used) {
+            if (feo_receive(&a, gather, FEO_BUFFER, &s[at], end - at, out, sizeof out, &r) != 0)
+                return 0;
+            shown += r.shown != 0;
+        }
+    }
+    return shown;
+}
+
+static void *(*volatile copy)(void *, const void *, size_t) = std::memcpy;
+
+// Copies s in the same pieces, each PDU to the start of the buffer.
+static size_t copies(const Bytes &s, size_t n, uint8_t *gather)
+{
+    size_t have = 0, whole = 0;
+    for (size_t from = 0; from < s.size(); from += n) {
+        size_t end = std::min(from + n, s.size());
+        for (size_t at = from; at < end;) {
+            size_t take = std::min(end - at, FEO_BUFFER - have);
+            copy(gather + have, &s[at], take);
+            at += take;
+            have += take;
+            if (have == FEO_BUFFER) {
+                have = 0;
+                whole++;
+            }
+        }
+    }
+    return whole;
+}
+
+// ---- an RQ
+
+static const char TITLES[33] = "STORE-EQUINE    CART 1          ";
+
+static const uint8_t *bytes(const char *text) { return (const uint8_t *)text; }
+
+// A proposal of so many contexts with so many transfer syntaxes each.
+static Bytes sheet_of(unsigned contexts, unsigned transfers)
+{
+    Bytes s;
+    for (unsigned k = 0; k < contexts; k++)
+        for (unsigned t = 0; t < transfers; t++) {
+            uint8_t record[132] = { 0 };
+            record[0] = (uint8_t)(2 * k + 1);
+            record[2] = (uint8_t)std::strlen(ABSTRACT);
+            record[3] = (uint8_t)std::strlen(TRANSFERS[t]);
+            std::memcpy(record + 4, ABSTRACT, record[2]);
+            std::memcpy(record + 68, TRANSFERS[t], record[3]);
+            s.insert(s.end(), record, record + 132);
+        }
+    return s;
+}
+
+// Writes the RQ of a proposal in Sta4: its length.
+static size_t request(const Bytes &sheet, uint8_t *out, size_t out_len)
+{
+    struct feo_assoc a = { 4, 0, 0, 0, 1, 0 };
+    struct feo_answer r;
+    feo_confirm(
+        &a, bytes(TITLES), 16, bytes(TITLES) + 16, 16, bytes(APPLICATION), std::strlen(APPLICATION), sheet.data(), sheet.size(),
+        NULL, 0, out, out_len, &r);
+    return r.sent;
+}
+
+static size_t records(const Bytes &pdu, Bytes &sheet)
+{
+    struct feo_associate f;
+    return feo_read_request(pdu.data(), pdu.size(), sheet.data(), sheet.size(), &f) == 0 ? f.records : 0;
+}
+
+// ---- the measurements
+
+static std::vector<Measured> all()
+{
+    static Bytes s = stream();
+    static uint8_t gather[FEO_BUFFER];
+    static std::vector<std::vector<Bytes> > kept;
+    std::vector<Measured> m;
+    const size_t pieces[4] = { 1, 100, 1460, 16390 };
+    for (size_t k = 0; k < 4; k++) {
+        size_t n = pieces[k];
+        must(receive(s, n, gather) == PDUS && copies(s, n, gather) == PDUS, "the stream is not received");
+        Measured x = { "receive", "pieces of " + std::to_string(n), { { "feohanna", [n] { return receive(s, n, gather); } }, { "memcpy", [n] { return copies(s, n, gather); } } } };
+        m.push_back(x);
+    }
+    const unsigned sizes[4][2] = { { 1, 1 }, { 1, 3 }, { 128, 1 }, { 128, 3 } };
+    for (int writes = 0; writes < 2; writes++)
+        for (size_t k = 0; k < 4; k++) {
+            unsigned contexts = sizes[k][0], transfers = sizes[k][1];
+            Bytes sheet = sheet_of(contexts, transfers), out(FEO_BUFFER), lent(sheet.size(), 0xC3);
+            out.resize(request(sheet, out.data(), out.size()));
+            must(out.size() != 0 && records(out, lent) == contexts * transfers && lent == sheet, "an RQ is not read back");
+            must(second_read(out.data(), out.size(), lent.data(), lent.size()) == contexts * transfers, "the second program does not read it");
+            must(second_write(bytes(TITLES), bytes(APPLICATION), std::strlen(APPLICATION), sheet.data(), sheet.size()) == out.size(), "the second program does not write it");
+            std::string what = std::to_string(contexts) + (contexts == 1 ? " context x " : " contexts x ") + std::to_string(transfers);
+            Measured x = { writes ? "write" : "read", what, {} };
+            Bytes *pdu = new Bytes(out), *given = new Bytes(sheet), *room = new Bytes(lent), *sent = new Bytes(20000);
+            if (!writes) {
+                x.contenders.push_back({ "feohanna", [=] { return records(*pdu, *room); } });
+                x.contenders.push_back({ "second", [=] { return second_read(pdu->data(), pdu->size(), room->data(), room->size()); } });
+            } else {
+                x.contenders.push_back({ "feohanna", [=] { return request(*given, sent->data(), FEO_BUFFER); } });
+                x.contenders.push_back({ "second", [=] { return second_write(bytes(TITLES), bytes(APPLICATION), std::strlen(APPLICATION), given->data(), given->size()); } });
+            }
+#ifdef WITH_DCMTK
+            void *proposal = dcmtk_proposal(contexts, transfers);
+            must(dcmtk_read(pdu->data(), pdu->size()) == contexts, "DCMTK does not read it");
+            must(dcmtk_write(proposal, sent->data(), sent->size()) != 0, "DCMTK does not write it");
+            if (!writes)
+                x.contenders.push_back({ "dcmtk", [=] { return dcmtk_read(pdu->data(), pdu->size()); } });
+            else
+                x.contenders.push_back({ "dcmtk", [=] { return dcmtk_write(proposal, sent->data(), sent->size()); } });
+#endif
+            m.push_back(x);
+        }
+    return m;
+}
+
+static volatile size_t sink;
+
+static double batch(const std::function<size_t()> &call, size_t times)
+{
+    auto from = std::chrono::steady_clock::now();
+    for (size_t i = 0; i < times; i++)
+        sink = call();
+    return std::chrono::duration<double, std::nano>(std::chrono::steady_clock::now() - from).count() / (double)times;
+}
+
+// The least time of a call of each contender, in batches of about a millisecond that take turns.
+static std::vector<double> times(const Measured &m)
+{
+    std::vector<double> best(m.contenders.size(), 1e18);
+    std::vector<size_t> often;
+    for (const Contender &c : m.contenders)
+        often.push_back(std::max<size_t>(1, (size_t)(1e6 / batch(c.call, 3))));
+    for (int round = 0; round < 200; round++)
+        for (size_t k = 0; k < best.size(); k++)
+            best[k] = std::min(best[k], batch(m.contenders[k].call, often[k]));
+    return best;
+}
+
+int main(int argc, char **argv)
+{
+    std::vector<Measured> ms = all();
+    if (argc == 4) {
+        for (const Measured &m : ms)
+            for (const Contender &c : m.contenders)
+                if (m.group + " " + m.what == argv[1] && c.who == argv[2]) {
+                    for (long n = std::atol(argv[3]); n > 0; n--)
+                        sink = c.call();
+                    return 0;
+                }
+        for (const Measured &m : ms)
+            for (const Contender &c : m.contenders)
+                std::printf("%s %s\t%s\n", m.group.c_str(), m.what.c_str(), c.who.c_str());
+        return 1;
+    }
+    for (const Measured &m : ms) {
+        std::vector<double> t = times(m);
+        for (size_t k = 1; k < t.size(); k++)
+            std::printf("%s\t%s\t%s\t%.1f\t%.1f\t%.2f\n", m.group.c_str(), m.what.c_str(), m.contenders[k].who.c_str(), t[0], t[k], t[0] / t[k]);
+        std::fflush(stdout);
+    }
+}
