@@ -1,4 +1,4 @@
--- The rules of names and titles at examples of document 01, PS3.5 and PS3.8, computed by antt.
+-- The rules of names and titles at worked examples, those of document 01 among them, computed by antt.
 -- Assumes nothing.
 use mathlib.Core.Path.{_≡_, refl}
 use mathlib.Core.Bool.{true, false}
@@ -8,7 +8,7 @@ use Rattle.names.specs.Title.{titleOk, titlesEqual, trimEnd}
 use Rattle.names.specs.Own.{listOk, known}
 use Rattle.names.specs.declared.own.Known.the-variants.{Yes, No, Refused}
 
--- PS3.5, 9.4: the examples of a UID's components
+-- the application context name of case 3; a leading zero; a trailing NUL
 application-context : nameOk (bytes "1.2.840.10008.3.1.1.1") ≡ true
 unfolding nameOk
 application-context = refl
