@@ -15,9 +15,9 @@ use Rattle.laws.proofs.Tests.{deciding}
 use Rattle.octets.specs.Put.{put, Placed}
 use Rattle.octets.proofs.PutLaws.{put-out}
 use Rattle.names.specs.Name.{nameOk}
-use Rattle.names.specs.Title.{titleOk}
+use Rattle.titles.specs.Title.{titleOk}
 use Rattle.names.proofs.NameLaws.{name-short}
-use Rattle.names.proofs.TitleLaws.{title-sixteen}
+use Rattle.titles.proofs.TitleLaws.{title-sixteen}
 use Rattle.sheets.specs.Sheet.{proposalOk, answersOk}
 use Rattle.sheets.proofs.Inverse.{proposal-whole, answers-whole}
 use Rattle.writing.specs.Fields.{rqOf, acOf, rqGood, acGood}

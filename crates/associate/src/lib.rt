@@ -25,10 +25,10 @@ fn titles_of(called: &[u8], calling: &[u8]) -> [u8; 64]
 fn request_good(called: &[u8], calling: &[u8], application: &[u8], sheet: &[u8]) -> bool
     ensures { λ r. ⌜ r ≡ rqGood (rqOf (now (called .entry)) (now (calling .entry)) (now (application .entry)) (now (sheet .entry))) ⌝ }
 {
-    if !names::title_ok(called) {
+    if !titles::title_ok(called) {
         return false;
     }
-    if !names::title_ok(calling) {
+    if !titles::title_ok(calling) {
         return false;
     }
     if !names::name_ok(application) {

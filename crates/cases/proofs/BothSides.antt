@@ -9,12 +9,12 @@ use Rattle.laws.specs.Lists.{among, distinct}
 use Rattle.octets.specs.Octets.{be16, be32}
 use Rattle.octets.specs.Put.{put, front}
 use Rattle.names.specs.Name.{nameOk}
-use Rattle.names.specs.Title.{titleOk, trimEnd, titlesEqual}
+use Rattle.titles.specs.Title.{titleOk, trimEnd, titlesEqual}
 use Rattle.names.proofs.NameLaws.{name-long}
 use Rattle.items.specs.Items.{step, walkIn, walk, filled, bodies, keeps}
 use Rattle.contents.specs.Contents.{subGood, subNext, good20H, one, good50H, contextGood, topGood, topNext, ids, itemsOk, maximumIn}
-use Rattle.judging.specs.Data.{pdvStep, pdvsIn, pdvs, pdvOk, pdvsOk}
-use Rattle.judging.specs.Values.{abortOk}
+use Rattle.pdvs.specs.Data.{pdvStep, pdvsIn, pdvs, pdvOk, pdvsOk}
+use Rattle.reasons.specs.Values.{abortOk}
 use Rattle.judging.specs.Pdu.{whole, requestOk, dataOk, releaseOk, abortPduOk, validAs, kindOf, acceptable, maximumOf}
 use Rattle.writing.specs.Ten.{tens, tenOf}
 use Rattle.framing.specs.Framing.{lengthField, frame}

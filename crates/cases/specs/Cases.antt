@@ -6,7 +6,7 @@ use lib.ListN.{take, replicate}
 use lib.Dec.{eqb}
 use Rattle.laws.specs.Text.{bytes}
 use Rattle.names.specs.Name.{nameOk}
-use Rattle.names.specs.Title.{titlesEqual}
+use Rattle.titles.specs.Title.{titlesEqual}
 use Rattle.judging.specs.Pdu.{kindOf}
 use Rattle.table.specs.Names.{AE-6, AR-6, AR-8, AA-7, AA-8}
 use Rattle.association.specs.Record.{timed}

@@ -14,7 +14,8 @@ use Rattle.names.specs.Name.{nameOk}
 use Rattle.items.specs.Items.{walk, bodies, first, keeps}
 use Rattle.items.proofs.RuleLaws.{keeps-good}
 use Rattle.contents.proofs.Meaning.{Sub, sub-counts}
-use Rattle.contents.specs.Contents.{odd, subRule, subGood, good20H, transferOk, one, good21H, contextGood, topRule, topGood, ids, itemsOk}
+use Rattle.octets.specs.Octets.{odd}
+use Rattle.contents.specs.Contents.{subRule, subGood, good20H, transferOk, one, good21H, contextGood, topRule, topGood, ids, itemsOk}
 
 -- ---- a good 20H
 module _ (b : List ℕ) (g : good20H b ≡ true) where

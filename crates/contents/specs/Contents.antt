@@ -1,17 +1,14 @@
 -- The items of an RQ and of an AC: "Known items in order: one 10H, one or more contexts (20H in RQ, 21H in AC), one 50H. Every other type is skipped
 -- wherever it stands. The same filling and skipping holds inside items."
-use Prim.Native.Nat.{ℕ, _%_}
+use Prim.Native.Nat.{ℕ}
 use mathlib.Core.Bool.{Bool, true, false, _&&_, _||_, cond}
 use mathlib.Core.List.{List, [], _∷_, map}
 use lib.ListN.{length, drop, getD}
 use lib.Dec.{leb, eqb}
 use Rattle.laws.specs.Lists.{distinct}
-use Rattle.octets.specs.Octets.{be32}
+use Rattle.octets.specs.Octets.{be32, odd}
 use Rattle.names.specs.Name.{nameOk}
 use Rattle.items.specs.Items.{Walk, walk, filled, bodies, first, Rule, keeps}
-
-abbrev pub odd : ℕ → Bool
-odd n = eqb (n % 2) 1
 
 -- the state after a known item that is out of order: none leads on from it
 abbrev pub wrong : ℕ

@@ -16,7 +16,7 @@ use Rattle.framing.specs.Host.{Entry, Item, One, one, event, run}
 use Rattle.framing.specs.Reference as ref
 use Rattle.framing.specs.Engine as eng
 use Rattle.framing.specs.ShutOut as out
-use Rattle.judging.specs.Values.{abortOk}
+use Rattle.reasons.specs.Values.{abortOk}
 use Rattle.judging.specs.Pdu.{whole, releaseOk, abortPduOk, validAs, kindOf, acceptable, maximumOf}
 use Rattle.writing.specs.Form.{refusalOf}
 use Rattle.writing.specs.Ten.{tens, tenOf}

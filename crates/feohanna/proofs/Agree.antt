@@ -20,7 +20,7 @@ use Rattle.feohanna.proofs.readers.feo_raw_read_accept as read-accept
 use Rattle.feohanna.proofs.readers.feo_raw_read_reject as read-reject
 use Rattle.feohanna.proofs.readers.feo_raw_read_abort as read-abort
 use Rattle.feohanna.proofs.readers.feo_raw_read_data as read-data
-use Rattle.feohanna.proofs.titles.feo_raw_title_known as title-known
+use Rattle.feohanna.proofs.title.feo_raw_title_known as title-known
 
 -- what is handed out beside the refusal
 abbrev rest : Handed → Handed

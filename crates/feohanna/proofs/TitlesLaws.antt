@@ -4,9 +4,9 @@ use Prim.Native.Nat.{ℕ}
 use mathlib.Core.Path.{_≡_}
 use mathlib.Core.List.{List}
 use borrow.Author.Needs.{needs}
-use Rattle.names.specs.declared.own.Known.{Known}
-use Rattle.names.specs.declared.own.Known.the-variants.{Yes, No, Refused}
-use Rattle.names.specs.Own.{known}
+use Rattle.titles.specs.declared.own.Known.{Known}
+use Rattle.titles.specs.declared.own.Known.the-variants.{Yes, No, Refused}
+use Rattle.titles.specs.Own.{known}
 use Rattle.feohanna.specs.Titles.{Checked}
 
 module _ (own sought : List ℕ) (k : Known) (p : k ≡ known own sought) where

@@ -2,7 +2,7 @@
 use mathlib.Core.Path.{_≡_}
 use mathlib.Core.List.{List}
 use Prim.Native.Nat.{ℕ}
-use Rattle.names.specs.Own.{known, refusal, value}
+use Rattle.titles.specs.Own.{known, refusal, value}
 
 pub record Checked (own sought : List ℕ) (r v : ℕ) : Type 0 where
   pub refused : r ≡ refusal (known own sought)

@@ -2,7 +2,7 @@
 mod calls;
 mod numbers;
 mod readers;
-mod titles;
+mod title;
 
 pub use calls::feo_raw_accept;
 pub use calls::feo_raw_confirm;
@@ -16,4 +16,4 @@ pub use readers::feo_raw_read_accept;
 pub use readers::feo_raw_read_data;
 pub use readers::feo_raw_read_reject;
 pub use readers::feo_raw_read_request;
-pub use titles::feo_raw_title_known;
+pub use title::feo_raw_title_known;

@@ -15,6 +15,7 @@ use mir.Syntax.{w64}
 use borrow.Author.Tests.{le-leb, lt-leb, leb-true, leb-false}
 use Rattle.laws.specs.Lists.{empty}
 use Rattle.octets.specs.Octets.{be16}
+use Rattle.octets.proofs.OctetLaws.{be16-drop}
 use Rattle.items.specs.Items.{Walk, done, broken, item, step, walkIn, walk, itemEnd}
 
 -- ---- the equation without a count of steps
@@ -44,13 +45,6 @@ unfolding walk walkIn
 walk-nil = refl
 
 -- ---- the equation at a place
--- the number at a place, seen from another
-pub be16-drop : (s : List ℕ) (at k : ℕ) → be16 (drop at s) k ≡ be16 s (at + k)
-unfolding be16
-be16-drop s at k =
-    let e : at + (k + 1) ≡ at + k + 1 = omega arith in
-    rw (getD-drop at s k 0, getD-drop at s (k + 1) 0, e)
-
 -- an item stands at a place, ends at e, and the walk goes on there
 pub record Item (s : List ℕ) (at e : ℕ) : Type 0 where
   pub from : at + 4 ≤ e

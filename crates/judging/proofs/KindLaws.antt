@@ -12,11 +12,11 @@ use borrow.Author.Tests.{le-leb, lt-leb, leb-true, leb-false, eq-eqb, ne-eqb, eq
 use Rattle.laws.proofs.Booleans.{left-of, right-of, both-of}
 use Rattle.laws.proofs.Places.{part-tail}
 use Rattle.laws.proofs.Tests.{deciding, decide, and-step, no-here}
-use Rattle.octets.specs.Octets.{be16, be32}
-use Rattle.names.specs.Title.{titleOk}
-use Rattle.contents.specs.Contents.{odd, itemsOk, maximumIn}
-use Rattle.judging.specs.Data.{pdvsOk}
-use Rattle.judging.specs.Values.{rejectOk, abortOk}
+use Rattle.octets.specs.Octets.{be16, be32, odd}
+use Rattle.titles.specs.Title.{titleOk}
+use Rattle.contents.specs.Contents.{itemsOk, maximumIn}
+use Rattle.pdvs.specs.Data.{pdvsOk}
+use Rattle.reasons.specs.Values.{rejectOk, abortOk}
 use Rattle.judging.specs.Inner.{kindAs}
 use Rattle.judging.specs.Pdu.{pduLength, whole, requestOk, acceptOk, rejectPduOk, dataOk, releaseOk, abortPduOk, validAs, kindOf, acceptable, maximumOf}
 

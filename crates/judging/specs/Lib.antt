@@ -1,4 +1,2 @@
-pub mod Data
-pub mod Values
 pub mod Pdu
 pub mod Inner

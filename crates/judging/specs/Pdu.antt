@@ -4,11 +4,11 @@ use mathlib.Core.Bool.{Bool, true, false, _&&_, _||_, cond}
 use mathlib.Core.List.{List}
 use lib.ListN.{length, take, drop, getD}
 use lib.Dec.{leb, eqb}
-use Rattle.octets.specs.Octets.{be16, be32}
-use Rattle.names.specs.Title.{titleOk}
-use Rattle.contents.specs.Contents.{odd, itemsOk, maximumIn}
-use Rattle.judging.specs.Data.{pdvsOk}
-use Rattle.judging.specs.Values.{rejectOk, abortOk}
+use Rattle.octets.specs.Octets.{be16, be32, odd}
+use Rattle.titles.specs.Title.{titleOk}
+use Rattle.contents.specs.Contents.{itemsOk, maximumIn}
+use Rattle.pdvs.specs.Data.{pdvsOk}
+use Rattle.reasons.specs.Values.{rejectOk, abortOk}
 
 -- "The header is type, reserved byte, four length bytes, high byte first."
 abbrev pub typeOf : List ℕ → ℕ

@@ -3,9 +3,6 @@ ghost use mathlib.Core.Path.{_≡_};
 ghost use mathlib.Core.Bool.{true};
 ghost use Rattle.judging.specs.Inner.{kindAs};
 ghost use Rattle.judging.specs.Pdu.{whole, requestOk, acceptOk, rejectPduOk, dataOk, releaseOk, abortPduOk, validAs, kindOf, acceptable as acceptableOf, maximumOf};
-use crate::data::pdvs_ok;
-use crate::values::abort_ok;
-use crate::values::reject_ok;
 
 fn is_whole(pdu: &[u8]) -> bool
     ensures { λ r. ⌜ r ≡ whole (now (pdu .entry)) ⌝ }
@@ -27,10 +24,10 @@ fn request_ok(pdu: &[u8]) -> bool
     if pdu.len() < 74 {
         return false;
     }
-    if !names::title_ok(&pdu[10..26]) {
+    if !titles::title_ok(&pdu[10..26]) {
         return false;
     }
-    if !names::title_ok(&pdu[26..42]) {
+    if !titles::title_ok(&pdu[26..42]) {
         return false;
     }
     contents::items_ok(0x20, &pdu[74..])
@@ -56,14 +53,14 @@ fn reject_pdu_ok(pdu: &[u8]) -> bool
     if pdu.len() != 10 {
         return false;
     }
-    reject_ok(pdu[7], pdu[8], pdu[9])
+    reasons::reject_ok(pdu[7], pdu[8], pdu[9])
 }
 
 fn data_ok(pdu: &[u8]) -> bool
     requires { ⌜ whole (now pdu) ≡ true ⌝ }
     ensures { λ r. ⌜ r ≡ dataOk (now (pdu .entry)) ⌝ }
 {
-    pdvs_ok(255, &pdu[6..])
+    pdvs::pdvs_ok(255, &pdu[6..])
 }
 
 fn release_ok(pdu: &[u8]) -> bool
@@ -80,7 +77,7 @@ fn abort_pdu_ok(pdu: &[u8]) -> bool
     if pdu.len() != 10 {
         return false;
     }
-    abort_ok(pdu[8], pdu[9])
+    reasons::abort_ok(pdu[8], pdu[9])
 }
 
 fn valid_as(t: u8, pdu: &[u8]) -> bool

@@ -1,19 +1,7 @@
--- Any two permitted answers agree, for each public function.
+-- Any two permitted answers agree, for the public function.
 -- Assumes nothing.
 use Rattle.laws.proofs.Agree.{agree, Agrees}
 use Rattle.names.proofs.name.name_ok as name-ok
-use Rattle.names.proofs.title.title_ok as title-ok
-use Rattle.names.proofs.equal.titles_equal as titles-equal
-use Rattle.names.proofs.own.title_known as title-known
 
 pub name-ok-agrees : Agrees 1 name-ok.Kinds.ps name-ok.Kinds.r name-ok.Reads.Post
 name-ok-agrees κs args a b x y p q = agree p q
-
-pub title-ok-agrees : Agrees 1 title-ok.Kinds.ps title-ok.Kinds.r title-ok.Reads.Post
-title-ok-agrees κs args a b x y p q = agree p q
-
-pub titles-equal-agrees : Agrees 2 titles-equal.Kinds.ps titles-equal.Kinds.r titles-equal.Reads.Post
-titles-equal-agrees κs args a b x y p q = agree p q
-
-pub title-known-agrees : Agrees 2 title-known.Kinds.ps title-known.Kinds.r title-known.Reads.Post
-title-known-agrees κs args a b x y p q = agree p q

@@ -1,7 +1,3 @@
 pub mod NameLaws
-pub mod TitleLaws
-pub mod TrimLaws
-pub mod OwnLaws
-pub mod Meaning
 pub mod Examples
 pub mod Agree

@@ -1,4 +1,2 @@
 pub mod Name
 pub mod Part
-pub mod Title
-pub mod Own

@@ -1,11 +1,4 @@
-// Names (UIDs) and application entity titles: document 01, "Valid PDUs" and "Titles".
-mod equal;
+// Names (UIDs): document 01, "Valid PDUs".
 mod name;
-mod own;
-mod title;
 
-pub use equal::titles_equal;
 pub use name::name_ok;
-pub use own::Known;
-pub use own::title_known;
-pub use title::title_ok;

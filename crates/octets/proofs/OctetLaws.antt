@@ -3,7 +3,8 @@
 use Prim.Native.Nat.{ℕ, _+_, _*_, _-_, _≤_}
 use mathlib.Core.Path.{_≡_, refl, sym, _∙_, ap}
 use mathlib.Core.List.{List}
-use lib.ListN.{length, getD, List·getD-eq-default}
+use lib.ListN.{length, drop, getD, List·getD-eq-default}
+use lib.Seq.{getD-drop}
 use native.Mathlib.Omega.{arith}
 use borrow.Author.Needs.{needs}
 use Rattle.octets.specs.Octets.{be16, be32}
@@ -23,6 +24,13 @@ module _ (s : List ℕ) (at : ℕ) where
   is-16 p q = q ∙ ap (λ (x : ℕ). getD s at 0 * 256 + x) p
 
 pub ruleset two-laws = (needs, past-16, is-16)
+
+-- the number at a place, seen from another
+pub be16-drop : (s : List ℕ) (at k : ℕ) → be16 (drop at s) k ≡ be16 s (at + k)
+unfolding be16
+be16-drop s at k =
+    let e : at + (k + 1) ≡ at + k + 1 = omega arith in
+    rw (getD-drop at s k 0, getD-drop at s (k + 1) 0, e)
 
 module _ (s : List ℕ) (at : ℕ) where
   pub past-32 : length s ≤ at → 0 ≡ be32 s at

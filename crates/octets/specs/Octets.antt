@@ -1,6 +1,8 @@
 -- Numbers of two and four bytes, high byte first (PS3.8, 9.3.1: "big endian byte ordering").
 use Prim.Native.Nat.{ℕ, _+_, _*_, _/_, _%_}
+use mathlib.Core.Bool.{Bool}
 use mathlib.Core.List.{List, [], _∷_}
+use lib.Dec.{eqb}
 use lib.ListN.{getD}
 
 -- the number in the two bytes from a place on; a byte past the end counts as 0
@@ -18,3 +20,7 @@ two n = n / 256 ∷ n % 256 ∷ []
 -- a number below 4,294,967,296 as four bytes
 abbrev pub four : ℕ → List ℕ
 four n = n / 16777216 ∷ n / 65536 % 256 ∷ n / 256 % 256 ∷ n % 256 ∷ []
+
+-- of an ID of a context or of a PDV
+abbrev pub odd : ℕ → Bool
+odd n = eqb (n % 2) 1

@@ -15,9 +15,9 @@ use mir.Val.{Fits}
 use mir.Syntax.{w64}
 use Rattle.laws.proofs.Booleans.{left-of, right-of}
 use Rattle.laws.proofs.Places.{part-tail}
-use Rattle.judging.specs.Data.{Pdv, pdvs, size, pdvEnd}
+use Rattle.pdvs.specs.Data.{Pdv, pdvs, size, pdvEnd}
 use Rattle.judging.specs.Pdu.{kindOf}
-use Rattle.judging.proofs.DataLaws.{pdvAt, PdvItem, pdv-more, pdv-stop, pdv-from, pdv-to, pdv-id, pdv-control, pdv-fits-4, pdv-fits-5, pdv-fits-6, pdv-walking}
+use Rattle.pdvs.proofs.DataLaws.{pdvAt, PdvItem, pdv-more, pdv-stop, pdv-from, pdv-to, pdv-id, pdv-control, pdv-fits-4, pdv-fits-5, pdv-fits-6, pdv-walking}
 use Rattle.judging.proofs.KindLaws.{whole-six, kind-whole}
 use Rattle.reading.specs.Data.{pdvsOf, pdv, startOf, dataOf, fragmentOf}
 use Rattle.reading.specs.declared.data.DataRead.{DataRead}

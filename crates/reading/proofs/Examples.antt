@@ -8,12 +8,12 @@ use Rattle.laws.specs.Lists.{among, distinct}
 use Rattle.laws.specs.Text.{bytes}
 use Rattle.octets.specs.Octets.{four, be16, be32}
 use Rattle.names.specs.Name.{nameOk}
-use Rattle.names.specs.Title.{titleOk}
+use Rattle.titles.specs.Title.{titleOk}
 use Rattle.items.specs.Items.{step, walkIn, walk, filled, bodies, place, keeps}
 use Rattle.items.specs.Wire.{itemBytes}
 use Rattle.contents.specs.Contents.{subGood, subNext, good20H, one, transferOk, good21H, good50H, contextGood, topGood, topNext, ids, itemsOk, maximumIn}
-use Rattle.judging.specs.Data.{pdvStep, pdvsIn, pdvs, pdvOk, pdvsOk}
-use Rattle.judging.specs.Values.{rejectReasons, rejectOk, abortOk}
+use Rattle.pdvs.specs.Data.{pdvStep, pdvsIn, pdvs, pdvOk, pdvsOk}
+use Rattle.reasons.specs.Values.{rejectReasons, rejectOk, abortOk}
 use Rattle.judging.specs.Pdu.{whole, requestOk, acceptOk, rejectPduOk, dataOk, abortPduOk, validAs, kindOf, maximumOf}
 use Rattle.sheets.specs.Sheet.{recordBytes, contextRecords, sheetOf, answerSheetOf}
 use Rattle.reading.specs.Associate.{contextOf, answerOf, proposed, answered, applicationOf, applicationAt, sheetIn, associateOf, filling}

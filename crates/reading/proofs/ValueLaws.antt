@@ -11,7 +11,7 @@ use borrow.Author.Needs.{needs}
 use borrow.Author.Tests.{eq-eqb, ne-eqb, eqb-true}
 use Rattle.laws.proofs.Booleans.{left-of}
 use Rattle.judging.specs.Pdu.{pduLength, rejectPduOk, abortPduOk, kindOf}
-use Rattle.judging.specs.Values.{rejectOk, abortOk}
+use Rattle.reasons.specs.Values.{rejectOk, abortOk}
 use Rattle.judging.proofs.KindLaws.{whole-length, kind-whole, kind-reject, kind-abort}
 use Rattle.reading.specs.Values.{rejectOf, abortOf}
 use Rattle.reading.specs.declared.values.RejectRead.{RejectRead}

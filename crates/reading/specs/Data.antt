@@ -4,7 +4,7 @@ use mathlib.Core.Bool.{cond}
 use mathlib.Core.List.{List, []}
 use lib.ListN.{length, take, drop, getD}
 use lib.Dec.{ltb, eqb}
-use Rattle.judging.specs.Data.{Pdv, pdvs, size}
+use Rattle.pdvs.specs.Data.{Pdv, pdvs, size}
 use Rattle.judging.specs.Pdu.{kindOf}
 use Rattle.reading.specs.declared.data.DataRead.{DataRead}
 

@@ -1,7 +1,7 @@
 // Reading a PDV by its number.
 ghost use mathlib.Core.Path.{_≡_};
 ghost use lib.ListN.{take};
-ghost use Rattle.judging.specs.Data.{pdvs, size};
+ghost use Rattle.pdvs.specs.Data.{pdvs, size};
 ghost use Rattle.reading.specs.Data.{dataOf, fragmentOf};
 
 // refusal: 0, or 7 or 4 with all else 0. The fragment starts at start, counted from the PDU's first byte, and has len bytes.
@@ -20,7 +20,7 @@ fn place_of(number: usize, s: &[u8]) -> usize
     let mut at = 0;
     let mut k = 0;
     while k < number {
-        let e = judging::pdv_end(s, at);
+        let e = pdvs::pdv_end(s, at);
         if e == 0 {
             return at;
         }
@@ -45,7 +45,7 @@ pub fn read_data(pdu: &[u8], number: usize) -> DataRead
     }
     let s = &pdu[6..];
     let at = place_of(number, s);
-    let e = judging::pdv_end(s, at);
+    let e = pdvs::pdv_end(s, at);
     if e == 0 {
         return DataRead {
             refusal: 4,

@@ -19,54 +19,11 @@ use Rattle.framing.specs.Framing.{Frame, frame, lengthField, Frame.short, Frame
 use Rattle.framing.proofs.Framing.{frame-few, frame-part, frame-over, frame-full, length-take-field, length-append-field, no-event-yet}
 use Rattle.framing.proofs.Buffers.{take-put}
 use Rattle.receiving.specs.Gathering.{wantOf, Fills, Filled, Fit, Gathered}
+use Rattle.receiving.proofs.FillLaws.{Wanted, wanted, wanted-at}
+use Rattle.receiving.proofs.NewLaws.{opens, behind-none}
 use Rattle.receiving.specs.declared.gather.Head.{Head}
 use Rattle.receiving.specs.declared.gather.Head.the-variants.{Short, Long, Whole}
 use Rattle.receiving.specs.declared.gather.Got.{Got}
-
--- ---- how many are wanted
-record Wanted (have need n w : ℕ) : Type 0 where
-  some : w ≤ n
-  upto : have ≤ need → have + w ≤ need
-  none : need ≤ have → w ≡ 0
-  all : have + w < need → w ≡ n
-
-wanted : (have need n : ℕ) → Wanted have need n (wantOf have need n)
-unfolding wantOf
-wanted have need n = by (leb need have) refl (ltb (need - have) n) refl
-  where
-    by : (a : Bool) → leb need have ≡ a → (b : Bool) → ltb (need - have) n ≡ b → Wanted have need n (cond a 0 (cond b (need - have) n))
-    by true ea b eb =
-        let h : need ≤ have = leb-true _ _ ea in
-        record { some = omega arith; upto = λ l. omega arith; none = λ l. refl; all = λ l. absurd (omega arith) }
-    by false ea true eb =
-        let h : have < need = leb-false _ _ ea in
-        let k : need - have < n = ltb-true _ _ eb in
-        record { some = omega arith; upto = λ l. omega arith; none = λ l. absurd (omega arith); all = λ l. absurd (omega arith) }
-    by false ea false eb =
-        let h : have < need = leb-false _ _ ea in
-        let k : n ≤ need - have = ltb-false _ _ eb in
-        record { some = omega arith; upto = λ l. omega arith; none = λ l. absurd (omega arith); all = λ l. refl }
-
-wanted-at : (have need : ℕ) {n w : ℕ} → w ≡ wantOf have need n → Wanted have need n w
-wanted-at have need {n} e = rw e (wanted have need n)
-
--- ---- one copy
-module _ (b : List ℕ) (c from need : ℕ) (p : List ℕ) (F : Fills b c from need p) (to : ℕ) (e : to ≡ wantOf c need (length p)) where
-  pub fill-up : from ≤ to
-  fill-up = omega (arith, F .up)
-
-  pub fill-some : to ≤ length p
-  fill-some = wanted-at c need e .some
-
-  pub fill-sum : c + from ≤ length b
-  fill-sum = omega (arith, F .up, F .room)
-
-  pub fill-done : (b′ : List ℕ) (r : ℕ) → Placed b (c + from) (take (to - from) (drop from p)) r b′ → Filled b c from need p b′ to
-  fill-done b′ r P =
-      let n : length (take (to - from) (drop from p)) ≡ to - from = length-take-le (to - from) (drop from p) (simp length-drop (omega (arith, fill-some))) in
-      record { to = e; room = omega (arith, F .room); buffer = put-out b (c + from) (take (to - from) (drop from p)) P (omega (arith, n, fill-up, F .room)) }
-
-pub ruleset fill-laws = (needs, fill-up, fill-some, fill-sum, fill-done)
 
 -- ---- the header, then the body
 module _ (b : List ℕ) (c : ℕ) (p : List ℕ) (f : Fit b c) where
@@ -203,4 +160,4 @@ module _ (b : List ℕ) (c : ℕ) (p : List ℕ) (f : Fit b c) where
               frame-full 16384 (take c b ++ p) six-all (omega (arith, same)) (omega (arith, same, all-length, W .some)) in
               record { used = rw q (omega (arith, same, near₂, G .to)); head = rw q; some = W .some; room = omega (arith, G .room, kept); buffer = second }
 
-pub ruleset gather-laws = (needs, first-fills, few, over, second-fills)
+pub ruleset gather-laws = (needs, opens, behind-none, first-fills, few, over, second-fills)

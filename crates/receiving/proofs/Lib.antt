@@ -1,3 +1,5 @@
+pub mod FillLaws
+pub mod NewLaws
 pub mod GatherLaws
 pub mod DeedLaws
 pub mod Opened

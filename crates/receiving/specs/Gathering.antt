@@ -26,6 +26,11 @@ pub record Filled (b : List ℕ) (c from need : ℕ) (p b′ : List ℕ) (r : �
   pub room : c + r ≤ length b
   pub buffer : b′ ≡ put b (c + from) (take (r - from) (drop from p))
 
+-- a place to cut a copy at: no further than `need`, and no nearer than `have` where that is within it
+pub record Cut (have need r : ℕ) : Type 0 where
+  pub within : r ≤ need
+  pub beyond : have ≤ need → have ≤ r
+
 abbrev pub headOf : Frame → Head
 headOf short = Short
 headOf long = Long
@@ -42,6 +47,11 @@ pub record Fit (b : List ℕ) (c : ℕ) : Type 0 where
   pub room : 16390 ≤ length b
   pub within : c ≤ length b
   pub quiet : frame 16384 (take c b) ≡ short
+
+-- nothing is gathered yet, and the piece has the header
+pub record Opens (b p : List ℕ) : Type 0 where
+  pub room : 16390 ≤ length b
+  pub header : 6 ≤ length p
 
 pub record Gathered (b : List ℕ) (c : ℕ) (p : List ℕ) (b′ : List ℕ) (r : Got) : Type 0 where
   pub used : r .used ≡ usedOf (frame 16384 (take c b ++ p)) c (length p)

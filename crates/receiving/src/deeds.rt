@@ -98,7 +98,15 @@ fn on_long(a: Assoc) -> Deed
         deaf: true,
         gathered: 0,
     };
-    done(action, a, b, 4)
+    let ten = association::ten_by(action, false, 4);
+    let shows = table::shows(action, false);
+    let assoc = association::after(action, a, b);
+    Deed {
+        action,
+        ten,
+        shows,
+        assoc,
+    }
 }
 
 fn tells(d: Deed, used: usize, sent: usize, length: usize) -> Answer

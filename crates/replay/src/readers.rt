@@ -8,11 +8,11 @@ use crate::row::one;
 use crate::row::seven;
 use crate::words::Words;
 use crate::words::bytes;
-use names::Known;
 use reading::AbortRead;
 use reading::Associate;
 use reading::DataRead;
 use reading::RejectRead;
+use titles::Known;
 
 fn kind(pdu: &[u8]) -> Row {
     seven(
@@ -108,10 +108,10 @@ pub fn read(call: u8, line: &[u8], w: Words) -> Row {
         b'J' => reject(reading::read_reject(first)),
         b'B' => abort(reading::read_abort(first)),
         b'D' => data(reading::read_data(first, w.last as usize)),
-        b'T' => title(names::title_known(first, bytes(line, w, 1))),
+        b'T' => title(titles::title_known(first, bytes(line, w, 1))),
         b'N' => one(mark(names::name_ok(first))),
-        b'V' => one(mark(names::title_ok(first))),
-        b'E' => one(mark(names::titles_equal(first, bytes(line, w, 1)))),
+        b'V' => one(mark(titles::title_ok(first))),
+        b'E' => one(mark(titles::titles_equal(first, bytes(line, w, 1)))),
         _ => kind(first),
     }
 }

@@ -11,7 +11,7 @@ use lib.ListN.{getD}
 use Rattle.laws.specs.Lists.{among}
 use Rattle.laws.proofs.Booleans.{T-left, T-right}
 use Rattle.octets.specs.Octets.{be16, be32}
-use Rattle.judging.specs.Values.{rejectReasons, rejectOk, abortOk}
+use Rattle.reasons.specs.Values.{rejectReasons, rejectOk, abortOk}
 use Rattle.judging.specs.Pdu.{whole, validAs, rejectPduOk, releaseOk, abortPduOk, kindOf}
 use Rattle.writing.specs.Ten.{NONE, ABORT-UNRECOGNIZED, ABORT-UNEXPECTED, ABORT-INVALID, tens, tenOf}
 use Rattle.table.specs.Table.{table, cellOf, isReceived}

@@ -14,7 +14,8 @@ use Rattle.laws.proofs.Booleans.{left-of, right-of, both-of, held, holds}
 use Rattle.laws.proofs.Same.{same-equal, same-self}
 use Rattle.names.specs.Name.{nameOk}
 use Rattle.names.proofs.NameLaws.{name-short}
-use Rattle.sheets.specs.Contexts.{Context, Answered, contextId, answeredId, odd, contextOk, transferOk, answeredOk, contextsOk, allAnsweredOk}
+use Rattle.octets.specs.Octets.{odd}
+use Rattle.sheets.specs.Contexts.{Context, Answered, contextId, answeredId, contextOk, transferOk, answeredOk, contextsOk, allAnsweredOk}
 use Rattle.sheets.specs.Sheet.{field, recordBytes, contextRecords, sheetOf, answerSheetOf, recordsOf, recordId, abstractOf, transferOf, goesOn, firstTransfers, others, start, runs, contextsIn, answeredOf, answersIn, zero?, fieldOk, fieldsOk, proposes, answers, proposalOk, answersOk}
 use Rattle.sheets.proofs.RecordLaws.{cap-low, field-length, record-length}
 use Rattle.sheets.proofs.RunLaws.{records-cons, no-run}

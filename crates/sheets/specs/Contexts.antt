@@ -1,9 +1,10 @@
 -- The presentation contexts of an association: those that a requestor proposes, and an acceptor's answers to them.
-use Prim.Native.Nat.{ℕ, _%_}
+use Prim.Native.Nat.{ℕ}
 use mathlib.Core.Bool.{Bool, _&&_}
 use mathlib.Core.List.{List, map}
 use lib.ListN.{length}
 use lib.Dec.{leb, eqb}
+use Rattle.octets.specs.Octets.{odd}
 use Rattle.laws.specs.Lists.{all, distinct}
 use Rattle.names.specs.Name.{nameOk}
 
@@ -24,9 +25,6 @@ contextId c = c .id
 
 abbrev pub answeredId : Answered → ℕ
 answeredId c = c .id
-
-abbrev pub odd : ℕ → Bool
-odd n = eqb (n % 2) 1
 
 -- "20H: ID odd, .., one 30H, then one or more 40H, each with a name."
 unfoldable pub contextOk : Context → Bool

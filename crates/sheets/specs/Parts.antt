@@ -3,7 +3,8 @@ use Prim.Native.Nat.{ℕ}
 use mathlib.Core.Bool.{Bool, _&&_, cond}
 use mathlib.Core.List.{List, map}
 use Rattle.names.specs.Name.{nameOk}
-use Rattle.sheets.specs.Contexts.{odd, answeredOk}
+use Rattle.octets.specs.Octets.{odd}
+use Rattle.sheets.specs.Contexts.{answeredOk}
 use Rattle.sheets.specs.Sheet.{recordsOf, recordId, abstractOf, transferOf, answeredOf, proposes, answers}
 
 -- a record that may stand in a proposal, in an answer, or in the one of them that `answer` says

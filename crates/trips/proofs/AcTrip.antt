@@ -11,7 +11,8 @@ use borrow.Author.Tests.{eqb-true}
 use Rattle.laws.specs.Lists.{all, distinct}
 use Rattle.laws.proofs.Booleans.{left-of, right-of, both-of}
 use Rattle.names.specs.Name.{nameOk}
-use Rattle.contents.specs.Contents.{odd, good21H, contextGood, itemsOk}
+use Rattle.octets.specs.Octets.{odd}
+use Rattle.contents.specs.Contents.{good21H, contextGood, itemsOk}
 use Rattle.judging.specs.Pdu.{versionOf, topItems, acceptOk, validAs, kindOf, maximumOf}
 use Rattle.judging.proofs.KindLaws.{kind-of-valid}
 use Rattle.sheets.specs.Contexts.{answeredId, answeredOk, allAnsweredOk}

@@ -12,12 +12,13 @@ use borrow.Author.Tests.{le-leb, eq-eqb, leb-true, eqb-true}
 use Rattle.laws.specs.Lists.{all, distinct}
 use Rattle.laws.proofs.Booleans.{left-of, right-of, both-of}
 use Rattle.names.specs.Name.{nameOk}
-use Rattle.names.specs.Title.{titleOk}
+use Rattle.titles.specs.Title.{titleOk}
 use Rattle.items.specs.Items.{walk, filled, bodies, first}
 use Rattle.items.specs.Wire.{itemBytes, itemsBytes}
 use Rattle.items.proofs.RuleLaws.{keeps-filled, keeps-good}
 use Rattle.items.proofs.WireLaws.{item-length, items-cons}
-use Rattle.contents.specs.Contents.{odd, subRule, good20H, one, transferOk as walkedOk, good21H, good50H, topGood, topRule, bodyId, ids, itemsOk}
+use Rattle.octets.specs.Octets.{odd}
+use Rattle.contents.specs.Contents.{subRule, good20H, one, transferOk as walkedOk, good21H, good50H, topGood, topRule, bodyId, ids, itemsOk}
 use Rattle.contents.proofs.GoodLaws.{kept-20, odd-20, abstract-names, transfer-names, odd-21, result-21, transfer-name, items-kept, items-distinct, items-20, items-21}
 use Rattle.judging.specs.Pdu.{pduLength, calledOf, callingOf, topItems, requestOk, kindOf}
 use Rattle.judging.proofs.KindLaws.{kind-whole, kind-request, request-long, accept-long, request-items, accept-items, whole-length, whole-limit}

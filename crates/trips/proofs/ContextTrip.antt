@@ -15,7 +15,8 @@ use Rattle.items.specs.Items.{Walk, done, item, walk, filled, bodies, first, ke
 use Rattle.items.specs.Wire.{itemBytes, itemsBytes}
 use Rattle.items.proofs.WalkLaws.{walk-nil}
 use Rattle.items.proofs.WireLaws.{item-length, walk-item, walk-last, run, items-cons, walk-items, bodies-run, keeps-run}
-use Rattle.contents.specs.Contents.{odd, subGood, subNext, subRule, good20H, one, transferOk as walkedOk, good21H, bodyId}
+use Rattle.octets.specs.Octets.{odd}
+use Rattle.contents.specs.Contents.{subGood, subNext, subRule, good20H, one, transferOk as walkedOk, good21H, bodyId}
 use Rattle.sheets.specs.Contexts.{Context, Answered, contextId, answeredId, contextOk, answeredOk, transferOk}
 use Rattle.reading.specs.Associate.{contextOf, answerOf}
 use Rattle.writing.specs.Wire.{contextBody, answerBody}

@@ -11,9 +11,10 @@ use lib.Dec.{leb, eqb}
 use Rattle.laws.specs.Lists.{all, distinct}
 use Rattle.laws.proofs.Booleans.{left-of, right-of, both-of}
 use Rattle.names.specs.Name.{nameOk}
-use Rattle.names.specs.Title.{titleOk}
-use Rattle.names.proofs.TitleLaws.{title-sixteen}
-use Rattle.contents.specs.Contents.{odd, good20H, contextGood, itemsOk}
+use Rattle.titles.specs.Title.{titleOk}
+use Rattle.titles.proofs.TitleLaws.{title-sixteen}
+use Rattle.octets.specs.Octets.{odd}
+use Rattle.contents.specs.Contents.{good20H, contextGood, itemsOk}
 use Rattle.judging.specs.Pdu.{versionOf, calledOf, callingOf, topItems, requestOk, validAs, kindOf, acceptable, maximumOf}
 use Rattle.judging.proofs.KindLaws.{kind-of-valid}
 use Rattle.sheets.specs.Contexts.{contextId, contextOk, contextsOk}

@@ -10,10 +10,9 @@ use lib.Dec.{leb, eqb}
 use borrow.Author.Tests.{le-leb, leb-true}
 use Rattle.laws.specs.Lists.{all}
 use Rattle.laws.proofs.Booleans.{left-of, right-of, both-of}
-use Rattle.octets.specs.Octets.{be16, be32}
-use Rattle.contents.specs.Contents.{odd}
-use Rattle.judging.specs.Values.{rejectOk, abortOk}
-use Rattle.judging.specs.Data.{Pdv, pdvs, size, pdvOk, pdvsOk}
+use Rattle.octets.specs.Octets.{be16, be32, odd}
+use Rattle.reasons.specs.Values.{rejectOk, abortOk}
+use Rattle.pdvs.specs.Data.{Pdv, pdvs, size, pdvOk, pdvsOk}
 use Rattle.judging.specs.Pdu.{whole, rejectPduOk, dataOk, releaseOk, abortPduOk, validAs, kindOf}
 use Rattle.judging.proofs.KindLaws.{kind-of-valid}
 use Rattle.reading.specs.Values.{rejectOf, abortOf}

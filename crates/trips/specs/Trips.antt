@@ -4,7 +4,7 @@ use mathlib.Core.Path.{_≡_}
 use mathlib.Core.Bool.{true}
 use mathlib.Core.List.{List}
 use lib.ListN.{length, take, drop}
-use Rattle.judging.specs.Data.{pdvs}
+use Rattle.pdvs.specs.Data.{pdvs}
 use Rattle.judging.specs.Pdu.{calledOf, callingOf, kindOf, acceptable as acceptableOf}
 use Rattle.sheets.specs.Sheet.{contextsIn, answersIn}
 use Rattle.reading.specs.Associate.{proposed, answered, applicationOf, sheetIn, associateOf, filling}

@@ -9,7 +9,7 @@ use lib.ListN.{length, getD}
 use borrow.Author.Needs.{needs}
 use borrow.Author.Tests.{le-leb, lt-leb, eq-eqb, ne-eqb, not-true, not-false}
 use Rattle.octets.specs.Octets.{four}
-use Rattle.judging.specs.Data.{pdvsOk}
+use Rattle.pdvs.specs.Data.{pdvsOk}
 use Rattle.writing.specs.Fields.{itemsOf, itemsGood}
 use Rattle.writing.specs.Wire.{pduBytes}
 use Rattle.writing.specs.Form.{Wrote, mostOf, dataForm}

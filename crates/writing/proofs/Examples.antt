@@ -7,10 +7,10 @@ use mathlib.Core.Path.{_≡_, refl}
 use Rattle.laws.specs.Lists.{among, distinct}
 use Rattle.octets.specs.Octets.{be16, be32}
 use Rattle.names.specs.Name.{nameOk}
-use Rattle.names.specs.Title.{titleOk}
+use Rattle.titles.specs.Title.{titleOk}
 use Rattle.items.specs.Wire.{itemBytes}
-use Rattle.judging.specs.Data.{pdvStep, pdvsIn, pdvs, pdvOk, pdvsOk}
-use Rattle.judging.specs.Values.{abortOk}
+use Rattle.pdvs.specs.Data.{pdvStep, pdvsIn, pdvs, pdvOk, pdvsOk}
+use Rattle.reasons.specs.Values.{abortOk}
 use Rattle.sheets.specs.Contexts.{contextOk, transferOk, answeredOk, contextsOk, allAnsweredOk}
 use Rattle.sheets.specs.Sheet.{recordBytes, recordsOf, cap, abstractOf, transferOf, goesOn, start, runs, contextsIn, answeredOf, answersIn, fieldOk, fieldsOk, proposes, answers, proposalOk, answersOk}
 use Rattle.writing.specs.Fields.{rejectOf, itemsOf, abortOf, rqGood, acGood, itemsGood, abortGood}

@@ -11,11 +11,12 @@ use lib.Dec.{leb}
 use Rattle.laws.specs.Lists.{all, distinct}
 use Rattle.laws.proofs.Booleans.{left-of, right-of}
 use Rattle.names.specs.Name.{nameOk}
-use Rattle.names.specs.Title.{titleOk}
+use Rattle.titles.specs.Title.{titleOk}
 use Rattle.names.proofs.NameLaws.{name-short}
 use Rattle.items.specs.Wire.{itemBytes, itemsBytes}
 use Rattle.items.proofs.WireLaws.{item-length, items-cons}
-use Rattle.sheets.specs.Contexts.{Context, contextId, odd, contextOk, contextsOk}
+use Rattle.octets.specs.Octets.{odd}
+use Rattle.sheets.specs.Contexts.{Context, contextId, contextOk, contextsOk}
 use Rattle.sheets.specs.Sheet.{recordBytes, contextRecords, sheetOf, contextsIn, proposalOk}
 use Rattle.sheets.proofs.RecordLaws.{record-length}
 use Rattle.sheets.proofs.Inverse.{proposal-contexts, proposal-back}

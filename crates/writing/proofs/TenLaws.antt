@@ -11,7 +11,7 @@ use borrow.Author.Needs.{needs}
 use borrow.Author.Tests.{eq-eqb, ne-eqb, leb-true, leb-false, not-true, not-false}
 use Rattle.octets.specs.Put.{Placed}
 use Rattle.octets.proofs.PutLaws.{put-none, placed-fits, behind-fits}
-use Rattle.judging.specs.Values.{rejectOk, abortOk}
+use Rattle.reasons.specs.Values.{rejectOk, abortOk}
 use Rattle.writing.specs.Fields.{rejectOf, abortOf, rejectGood, abortGood}
 use Rattle.writing.specs.Ten.{tens, tenOf, rejectBytes, abortBytes}
 use Rattle.writing.specs.Form.{Wrote, rejectForm, releaseRqForm, releaseRpForm, abortForm}

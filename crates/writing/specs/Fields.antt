@@ -6,10 +6,10 @@ use mathlib.Core.List.{List}
 use lib.ListN.{length}
 use lib.Dec.{eqb}
 use Rattle.names.specs.Name.{nameOk}
-use Rattle.names.specs.Title.{titleOk}
+use Rattle.titles.specs.Title.{titleOk}
 use Rattle.sheets.specs.Sheet.{proposalOk, answersOk}
-use Rattle.judging.specs.Data.{pdvsOk}
-use Rattle.judging.specs.Values.{rejectOk, abortOk}
+use Rattle.pdvs.specs.Data.{pdvsOk}
+use Rattle.reasons.specs.Values.{rejectOk, abortOk}
 
 -- an A-ASSOCIATE-RQ: the titles, the application name, the proposal sheet
 pub record RqFields : Type 0 where

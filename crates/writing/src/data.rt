@@ -33,7 +33,7 @@ fn most_of(peer: u32) -> usize
 pub fn write_data(items: &[u8], peer: u32, out: &mut [u8]) -> Sent
     ensures { λ r. ⌜ Wrote (dataForm peer (itemsOf (now (items .entry)))) (now (out .entry)) r (now (out .exit)) ⌝ }
 {
-    if !judging::pdvs_ok(3, items) {
+    if !pdvs::pdvs_ok(3, items) {
         return Sent {
             refusal: 4,
             count: 0,

@@ -81,7 +81,7 @@ fn send(pdu: &[u8], out: &mut [u8]) -> Sent
 pub fn write_reject(result: u8, source: u8, reason: u8, out: &mut [u8]) -> Sent
     ensures { λ r. ⌜ Wrote (rejectForm (rejectOf result source reason)) (now (out .entry)) r (now (out .exit)) ⌝ }
 {
-    if !judging::reject_ok(result, source, reason) {
+    if !reasons::reject_ok(result, source, reason) {
         return Sent {
             refusal: 4,
             count: 0,
@@ -117,7 +117,7 @@ fn abort_good(source: u8, reason: u8) -> bool
     if source == 0 {
         return reason == 0;
     }
-    judging::abort_ok(source, reason)
+    reasons::abort_ok(source, reason)
 }
 
 // Writes an A-ABORT to the start of the output.

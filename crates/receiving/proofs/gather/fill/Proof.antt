@@ -1,6 +1,6 @@
 -- `fill` meets its contract.
 -- Assumes nothing.
-use Rattle.receiving.proofs.GatherLaws.{fill-laws}
+use Rattle.receiving.proofs.FillLaws.{fill-laws}
 use Rattle.receiving.proofs.gather.fill.Statement.{statement}
 use Rattle.receiving.proofs.gather.fill.Tie as tie
 

@@ -1,0 +1,1 @@
+// No code: what the contracts of the lowest crates permit at given arguments, in proofs/; each edit of must-fail/ states another answer.

@@ -1,0 +1,46 @@
+-- "04H P-DATA-TF: one or more PDV items that fill it: four-byte length at least 2, odd ID, control byte (bit 0 command, bit 1 last; bits 2 to 7 not
+-- tested), fragment, perhaps empty."
+use Prim.Native.Nat.{ℕ, zero, suc, _+_, _-_}
+use mathlib.Core.Bool.{Bool, true, false, _&&_, cond}
+use mathlib.Core.List.{List, [], _∷_}
+use lib.ListN.{length, take, drop, getD}
+use lib.Dec.{leb, eqb}
+use Rattle.laws.specs.Lists.{all}
+use Rattle.octets.specs.Octets.{be32, odd}
+
+pub record Pdv : Type 0 where
+  pub id : ℕ
+  pub control : ℕ
+  pub fragment : List ℕ
+
+-- one step over the body of a P-DATA-TF, with `go` for the PDV items behind the first
+unfoldable pub pdvStep : (List ℕ → List Pdv) → List ℕ → List Pdv
+pdvStep go s =
+    cond (leb 2 (be32 s 0) && leb (4 + be32 s 0) (length s))
+    (record { id = getD s 4 0; control = getD s 5 0; fragment = take (be32 s 0 - 2) (drop 6 s) } ∷ go (drop (4 + be32 s 0) s))
+    []
+
+-- at most n steps
+unfoldable pub pdvsIn : ℕ → List ℕ → List Pdv
+pdvsIn zero s = []
+pdvsIn (suc n) s = pdvStep (pdvsIn n) s
+
+-- the PDV items that stand at the start of a body, one behind the other: `pdvs s ≡ pdvStep pdvs s` (DataLaws.pdvs-step)
+unfoldable pub pdvs : List ℕ → List Pdv
+pdvs s = pdvsIn (length s) s
+
+-- the bytes that PDV items take: four for the length, two for ID and control byte, and the fragment
+abbrev pub size : List Pdv → ℕ
+size [] = 0
+size (p ∷ ps) = 6 + length (p .fragment) + size ps
+
+-- a PDV whose control byte is at most `most`: 255, so any, in a received one; 3, so bits 2 to 7 zero, in one to be sent
+unfoldable pub pdvOk : ℕ → Pdv → Bool
+pdvOk most p = odd (p .id) && leb (p .control) most
+
+unfoldable pub pdvsOk : ℕ → List ℕ → Bool
+pdvsOk most s = leb 1 (length (pdvs s)) && (eqb (size (pdvs s)) (length s) && all (pdvOk most) (pdvs s))
+
+-- the place behind the PDV item at a place, or 0 where none stands there
+unfoldable pub pdvEnd : List ℕ → ℕ → ℕ
+pdvEnd s at = cond (leb 2 (be32 s at) && leb (at + 4 + be32 s at) (length s)) (at + 4 + be32 s at) 0

@@ -1,0 +1,4 @@
+pub mod Pdvs
+pub mod Pdus
+pub mod Judging
+pub mod Reading

@@ -1,0 +1,9 @@
+// Application entity titles: document 01, "Valid PDUs" and "Titles".
+mod equal;
+mod own;
+mod title;
+
+pub use equal::titles_equal;
+pub use own::Known;
+pub use own::title_known;
+pub use title::title_ok;
