@@ -11,8 +11,8 @@ GROUPS = {
     "read": "Judging and reading an A-ASSOCIATE-RQ",
     "write": "Writing it",
 }
-COLOURS = {"memcpy": "#4c78a8", "second": "#72b7b2", "dcmtk": "#e45756"}
-NAMES = {"memcpy": "memcpy", "second": "the second program", "dcmtk": "DCMTK"}
+COLOURS = {"memcpy": "#4c78a8", "plain": "#9ecae9", "second": "#72b7b2", "dcmtk": "#e45756"}
+NAMES = {"memcpy": "memcpy", "plain": "a plain x86-64 copy", "second": "the second program", "dcmtk": "DCMTK"}
 BEGIN, END = "<!-- measured -->\n", "<!-- end -->\n"
 
 

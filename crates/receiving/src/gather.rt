@@ -66,7 +66,7 @@ fn gather_new(buf: &mut [u8], piece: &[u8]) -> Got
     ensures { λ r. ⌜ Gathered (now (buf .entry)) 0 (now (piece .entry)) (now (buf .exit)) r ⌝ }
 {
     let len = association::length_field(piece);
-    if 16384 < len {
+    if len > 16384 {
         octets::put(buf, 0, &piece[..6]);
         return Got {
             used: 6,

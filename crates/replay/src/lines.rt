@@ -1,79 +1,76 @@
 // Lines of standard input, which is read in large pieces.
 use libc::STDIN_FILENO;
 
-// How far a line is taken: its length so far, usize::MAX for one that is too long; whether it is whole; what is left of the bytes read, from `at` to `end`.
+// How far a line is taken: its length so far, usize::MAX for one that is too long; what is left of the bytes read, from `at` to `end`.
+// At the end of the input `end` is 0.
 pub struct Taken {
     pub len: usize,
-    pub whole: bool,
     pub at: usize,
     pub end: usize,
 }
 
-fn push(line: &mut [u8], n: usize, b: u8) -> usize {
-    if n < line.len() {
+// Whether no line is left.
+pub fn is_end(t: Taken) -> bool {
+    if t.end == 0 { t.len == 0 } else { false }
+}
+
+// Puts a byte behind the n of a line, and answers how many it then has.
+fn push(line: &mut [u8; 270002], n: usize, b: u8) -> usize {
+    if n < 270000 {
         line[n] = b;
-        return n + 1;
+        n + 1
+    } else {
+        usize::MAX
     }
-    usize::MAX
 }
 
-// Takes bytes read to a line of len bytes, up to a newline.
-fn take_bytes(line: &mut [u8], len: usize, read: &[u8], at: usize, end: usize) -> Taken {
-    let mut n = len;
-    let mut i = at;
-    while i < end {
-        if read.len() <= i {
-            break;
+// Reads once, as much as the buffer holds, where no byte is left.
+fn filled(read: &mut [u8; 65536], t: Taken) -> Taken {
+    if t.at < t.end {
+        t
+    } else {
+        let got = libc::read(STDIN_FILENO, read);
+        Taken {
+            len: t.len,
+            at: 0,
+            end: io::count(got, read),
         }
-        let b = read[i];
-        i += 1;
-        if b == b'\n' {
-            return Taken {
-                len: n,
-                whole: true,
-                at: i,
-                end,
-            };
-        }
-        n = push(line, n, b);
-    }
-    Taken {
-        len: n,
-        whole: false,
-        at: 0,
-        end: 0,
     }
 }
 
-// Reads once, as much as the buffer holds.
-fn read_some(read: &mut [u8]) -> usize {
-    let got = libc::read(STDIN_FILENO, read);
-    io::count(got, read)
-}
-
-// The next line: its bytes, those read and not taken yet first. At the end of the input it is not whole, and may be empty.
-pub fn next_line(line: &mut [u8], read: &mut [u8], at: usize, end: usize) -> Taken {
-    let mut t = take_bytes(line, 0, read, at, end);
+// The next line, without its newline. At the end of the input it is what is left, which may be nothing.
+pub fn next_line(line: &mut [u8; 270002], read: &mut [u8; 65536], last: Taken) -> Taken {
+    let mut t = Taken {
+        len: 0,
+        at: last.at,
+        end: last.end,
+    };
     let mut turns = u64::MAX;
     while turns > 0 {
-        if t.whole {
-            return t;
+        let f = filled(read, t);
+        t = f;
+        let at = f.at;
+        if f.end <= at {
+            break;
         }
-        let n = read_some(read);
-        if n == 0 {
-            return t;
+        if 65535 < at {
+            break;
         }
-        let more = take_bytes(line, t.len, read, 0, n);
-        t = more;
+        let b = read[at];
+        if b == b'\n' {
+            t = Taken {
+                len: f.len,
+                at: at + 1,
+                end: f.end,
+            };
+            break;
+        }
+        t = Taken {
+            len: push(line, f.len, b),
+            at: at + 1,
+            end: f.end,
+        };
         turns -= 1;
     }
     t
-}
-
-// Whether no line is left.
-pub fn is_end(t: Taken) -> bool {
-    if t.whole {
-        return false;
-    }
-    t.len == 0
 }

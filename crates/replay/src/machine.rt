@@ -1,81 +1,72 @@
 // The machine's calls, each on a record, a gather buffer and an output.
+use crate::buffers::digest;
+use crate::buffers::fill;
 use crate::buffers::front;
-use crate::buffers::seen;
-use crate::digest::digest;
 use crate::kept::Kept;
-use crate::kept::Record;
-use crate::kept::lay;
-use crate::kept::record_in;
-use crate::row::Row;
-use crate::row::mark;
-use crate::row::no_call;
-use crate::words::Words;
-use crate::words::are_all;
+use crate::kept::said;
+use crate::plain::plain_call;
+use crate::print::mark;
+use crate::print::print;
 use crate::words::byte;
 use crate::words::bytes;
-use crate::words::contents;
+use crate::words::number;
 use association::Answer;
 use association::Assoc;
 
-// What a line does: the answer to print, and what is kept.
-pub struct Done {
-    pub row: Row,
-    pub kept: Kept,
-}
-
-// What a line says: RECORD, and the words behind it.
-struct Said {
-    record: Record,
-    words: Words,
-}
-
-pub fn is_machine(call: u8) -> bool {
-    match call {
-        b'r' | b'e' | b'c' | b'a' | b'j' | b'd' => true,
-        _ => false,
-    }
-}
-
 // A local event.
-fn local(call: u8, a: Assoc, line: &[u8], w: Words, gather: &[u8], out: &mut [u8]) -> Answer {
+fn local(
+    call: u8,
+    a: Assoc,
+    line: &[u8],
+    words: &[u64; 14],
+    gather: &[u8],
+    out: &mut [u8],
+) -> Answer {
+    let first = bytes(line, words, 9);
+    let second = bytes(line, words, 10);
+    let third = bytes(line, words, 11);
+    let one = byte(words, 9);
     match call {
-        b'c' => requests::confirm(
-            a,
-            bytes(line, w, 0),
-            bytes(line, w, 1),
-            bytes(line, w, 2),
-            bytes(line, w, 3),
-            gather,
-            out,
-        ),
-        b'a' => requests::accept(
-            a,
-            bytes(line, w, 0),
-            bytes(line, w, 1),
-            bytes(line, w, 2),
-            gather,
-            out,
-        ),
-        b'j' => requests::reject(a, byte(w, 0), byte(w, 1), byte(w, 2), gather, out),
-        b'd' => requests::send(a, bytes(line, w, 0), gather, out),
-        _ => requests::event(a, byte(w, 0), gather, out),
+        b'c' => requests::confirm(a, first, second, third, bytes(line, words, 12), gather, out),
+        b'a' => requests::accept(a, first, second, third, gather, out),
+        b'j' => requests::reject(a, one, byte(words, 10), byte(words, 11), gather, out),
+        b'd' => requests::send(a, first, gather, out),
+        _ => requests::event(a, one, gather, out),
     }
 }
 
-fn answer(call: u8, a: Assoc, line: &[u8], w: Words, gather: &mut [u8], out: &mut [u8]) -> Answer {
+// Sets both buffers as a RECORD in words says; one that is kept leaves them.
+fn lay(line: &[u8], words: &[u64; 14], gather: &mut [u8], out: &mut [u8]) {
+    if number(words, 7) == 0 {
+        return;
+    }
+    fill(gather, bytes(line, words, 7), 0xA5);
+    fill(out, &line[..0], 0x5A);
+}
+
+// A machine call on a record, with the buffers as it lends them.
+fn answer(
+    call: u8,
+    a: Assoc,
+    line: &[u8],
+    words: &[u64; 14],
+    gather: &mut [u8],
+    out: &mut [u8],
+) -> Answer {
+    lay(line, words, gather, out);
     if call == b'r' {
-        return receiving::receive(a, gather, bytes(line, w, 0), out);
+        receiving::receive(a, gather, bytes(line, words, 9), out)
+    } else {
+        local(call, a, line, words, gather, out)
     }
-    local(call, a, line, w, gather, out)
 }
 
-// The answer, the record after it, and the digests of both buffers.
-fn told(r: Answer, gather: u64, out: u64) -> Row {
+// Prints the answer, the record after it, and the digests of both buffers.
+fn tell(r: Answer, k: Kept, gather: &[u8], out: &[u8]) {
     let t = r.told;
     let a = r.assoc;
-    Row {
-        count: 13,
-        numbers: [
+    print(
+        &[
             t.refusal as u64,
             t.action as u64,
             t.used as u64,
@@ -87,63 +78,40 @@ fn told(r: Answer, gather: u64, out: u64) -> Row {
             mark(a.artim),
             mark(a.requestor),
             a.peer_max as u64,
-            gather,
-            out,
+            digest(gather, k.gather),
+            digest(out, k.out),
         ],
-    }
+    );
 }
 
-// A machine call on what is kept, with its buffers laid.
-fn called(call: u8, k: Kept, line: &[u8], w: Words, gather: &mut [u8], out: &mut [u8]) -> Done {
-    let a = k.assoc;
-    let r = answer(call, a, line, w, front(gather, k.gather), front(out, k.out));
-    let assoc = r.assoc;
-    Done {
-        row: told(r, digest(seen(gather, k.gather)), digest(seen(out, k.out))),
-        kept: Kept {
-            assoc,
-            gather: k.gather,
-            out: k.out,
-        },
-    }
-}
-
-// A machine call of good form.
-fn made(call: u8, r: Record, line: &[u8], w: Words, gather: &mut [u8], out: &mut [u8]) -> Done {
-    lay(r, line, gather, out);
-    let k = r.kept;
-    called(call, k, line, w, gather, out)
-}
-
-pub fn unchanged(kept: Kept) -> Done {
-    Done {
-        row: no_call(),
-        kept,
-    }
-}
-
-fn said_in(call: u8, line: &mut [u8], kept: Kept) -> Said {
-    let record = record_in(line, kept);
-    let words = contents(call, line, record.next);
-    Said { record, words }
-}
-
-// A line that names a machine call.
-pub fn machine_call(
+// Prints the answer to a line, and says what is then kept: what a machine call leaves, and as before for any other line.
+pub fn answered(
     call: u8,
-    line: &mut [u8],
+    line: &[u8; 270002],
+    words: &[u64; 14],
     kept: Kept,
     gather: &mut [u8],
     out: &mut [u8],
-) -> Done {
-    let said = said_in(call, line, kept);
-    let record = said.record;
-    let words = said.words;
-    if !record.fits {
-        return unchanged(kept);
+) -> Kept {
+    if call < b'a' {
+        plain_call(call, line, words);
+        return kept;
     }
-    if !are_all(line, words) {
-        return unchanged(kept);
+    let k = said(words, kept);
+    let a = k.assoc;
+    let r = answer(
+        call,
+        a,
+        line,
+        words,
+        front(gather, k.gather),
+        front(out, k.out),
+    );
+    tell(r, k, gather, out);
+    let assoc = r.assoc;
+    Kept {
+        assoc,
+        gather: k.gather,
+        out: k.out,
     }
-    made(call, record, line, words, gather, out)
 }

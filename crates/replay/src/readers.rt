@@ -1,20 +1,16 @@
-// The calls that read.
+// What the calls that read print.
+use crate::buffers::digest;
 use crate::buffers::front;
-use crate::buffers::seen;
-use crate::digest::digest;
-use crate::row::Row;
-use crate::row::mark;
-use crate::row::one;
-use crate::row::seven;
-use crate::words::Words;
-use crate::words::bytes;
+use crate::buffers::sheet;
+use crate::print::mark;
+use crate::print::seven;
 use reading::AbortRead;
 use reading::Associate;
 use reading::DataRead;
 use reading::RejectRead;
 use titles::Known;
 
-fn kind(pdu: &[u8]) -> Row {
+pub fn kind(pdu: &[u8]) {
     seven(
         3,
         judging::kind_of(pdu) as u64,
@@ -24,10 +20,21 @@ fn kind(pdu: &[u8]) -> Row {
         0,
         0,
         0,
-    )
+    );
 }
 
-fn fields(f: Associate, sheet: u64) -> Row {
+fn fields(call: u8, pdu: &[u8], sheet: &mut [u8]) -> Associate {
+    if call == b'Q' {
+        reading::read_request(pdu, sheet)
+    } else {
+        reading::read_accept(pdu, sheet)
+    }
+}
+
+// An RQ or an AC, into a sheet.
+pub fn associate(call: u8, pdu: &[u8], room: usize) {
+    let mut lent = sheet();
+    let f = fields(call, pdu, front(&mut lent, room));
     seven(
         7,
         f.refusal as u64,
@@ -36,23 +43,11 @@ fn fields(f: Associate, sheet: u64) -> Row {
         f.application_len as u64,
         f.maximum as u64,
         f.records as u64,
-        sheet,
-    )
+        digest(&lent, room),
+    );
 }
 
-fn request(pdu: &[u8], room: usize) -> Row {
-    let mut sheet = [0xC3u8; 66000];
-    let f = reading::read_request(pdu, front(&mut sheet, room));
-    fields(f, digest(seen(&sheet, room)))
-}
-
-fn accept(pdu: &[u8], room: usize) -> Row {
-    let mut sheet = [0xC3u8; 66000];
-    let f = reading::read_accept(pdu, front(&mut sheet, room));
-    fields(f, digest(seen(&sheet, room)))
-}
-
-fn reject(f: RejectRead) -> Row {
+pub fn reject(f: RejectRead) {
     seven(
         4,
         f.refusal as u64,
@@ -62,10 +57,10 @@ fn reject(f: RejectRead) -> Row {
         0,
         0,
         0,
-    )
+    );
 }
 
-fn abort(f: AbortRead) -> Row {
+pub fn abort(f: AbortRead) {
     seven(
         3,
         f.refusal as u64,
@@ -75,10 +70,10 @@ fn abort(f: AbortRead) -> Row {
         0,
         0,
         0,
-    )
+    );
 }
 
-fn data(f: DataRead) -> Row {
+pub fn data(f: DataRead) {
     seven(
         5,
         f.refusal as u64,
@@ -88,10 +83,10 @@ fn data(f: DataRead) -> Row {
         f.len as u64,
         0,
         0,
-    )
+    );
 }
 
-fn title(k: Known) -> Row {
+pub fn title(k: Known) {
     match k {
         Known::Yes => seven(2, 0, 1, 0, 0, 0, 0, 0),
         Known::No => seven(2, 0, 0, 0, 0, 0, 0, 0),
@@ -99,19 +94,6 @@ fn title(k: Known) -> Row {
     }
 }
 
-// The answer to a reading call.
-pub fn read(call: u8, line: &[u8], w: Words) -> Row {
-    let first = bytes(line, w, 0);
-    match call {
-        b'Q' => request(first, w.last as usize),
-        b'A' => accept(first, w.last as usize),
-        b'J' => reject(reading::read_reject(first)),
-        b'B' => abort(reading::read_abort(first)),
-        b'D' => data(reading::read_data(first, w.last as usize)),
-        b'T' => title(titles::title_known(first, bytes(line, w, 1))),
-        b'N' => one(mark(names::name_ok(first))),
-        b'V' => one(mark(titles::title_ok(first))),
-        b'E' => one(mark(titles::titles_equal(first, bytes(line, w, 1)))),
-        _ => kind(first),
-    }
+pub fn whether(b: bool) {
+    seven(1, mark(b), 0, 0, 0, 0, 0, 0);
 }

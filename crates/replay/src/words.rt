@@ -1,200 +1,174 @@
-// The words of a line, read by their kinds: b a byte, n a number, m a mark, w a number of 32 bits, l the length of a buffer,
-// t that of a sheet, x a byte string, s a sheet.
-use crate::buffers::seen;
-use crate::hex::bytes_in;
-use crate::number::Number;
-use crate::number::misfit;
-use crate::number::number_in;
+// The words of a line, read by their kinds into fourteen numbers: the nine of a RECORD, four of a call's contents, and its OUTLEN. A place that the line
+// has no word for holds 0. The number of a byte string is START * 262144 + LENGTH, by where its bytes then stand in the line.
+//
+// The kinds are hex digits, the first place's the lowest: 0 no word, 1 a mark, 2 a byte, 3 a number of 32 bits, 4 the length of a buffer, 5 that of a sheet,
+// 6 a number, 7 a byte string, 8 a sheet, 9 the word `=`.
+use crate::digits::Word;
+use crate::digits::number_at;
+use crate::digits::string_at;
+ghost use Prim.Native.Nat.{_<_};
 
-// The longest byte string but a sheet, the longest buffer but a sheet.
-pub const STRING: usize = 17000;
-// The longest sheet.
-pub const SHEET: usize = 66000;
+// The kinds of a RECORD in words.
+const RECORD: u64 = 0x474311162;
 
-// One word: whether it is of its kind; its number, or how many bytes it says; where these stand; where the next word does.
-struct Word {
-    fits: bool,
-    value: u64,
-    start: usize,
-    next: usize,
+// How a line is read: its call, 0 for none, and the kinds of its words.
+struct Form {
+    call: u8,
+    kinds: u64,
 }
 
-// Up to nine words, one or more: whether each is of its kind; what the last one says; and the same of each as of one word.
-pub struct Words {
-    pub fit: bool,
-    pub last: u64,
-    pub values: [u64; 9],
-    pub starts: [usize; 9],
-    pub next: usize,
+// The kinds of a call's contents and its OUTLEN; 0 for no call.
+fn contents(call: u8) -> u64 {
+    match call {
+        b'1' => 0x48777,
+        b'2' => 0x40877,
+        b'3' => 0x40222,
+        b'4' => 0x40007,
+        b'5' => 0x40000,
+        b'6' => 0x40000,
+        b'7' => 0x40022,
+        b'A' => 0x57,
+        b'B' => 0x7,
+        b'D' => 0x67,
+        b'E' => 0x77,
+        b'J' => 0x7,
+        b'K' => 0x7,
+        b'N' => 0x7,
+        b'Q' => 0x57,
+        b'T' => 0x77,
+        b'V' => 0x7,
+        b'a' => 0x877,
+        b'c' => 0x8777,
+        b'd' => 0x7,
+        b'e' => 0x2,
+        b'j' => 0x222,
+        b'r' => 0x7,
+        _ => 0,
+    }
 }
 
 // The most that a word of a kind may say.
-fn most(kind: u8) -> u64 {
+fn most(kind: u64) -> u64 {
     match kind {
-        b'm' => 1,
-        b'b' => 255,
-        b'w' => 4294967295,
-        b'l' => STRING as u64,
-        b'x' => STRING as u64,
-        b't' => SHEET as u64,
-        b's' => SHEET as u64,
+        1 => 1,
+        2 => 255,
+        3 => 4294967295,
+        4 => 17000,
+        5 => 66000,
+        7 => 17000,
+        8 => 66000,
         _ => u64::MAX,
     }
 }
 
-// Where the word that starts at `at` ends: at a space, or with the line.
-fn word_end(line: &[u8], at: usize) -> usize {
-    let mut i = at;
-    while i < line.len() {
-        if line[i] == b' ' {
-            return i;
+// How a line is read, by its call and the first byte of its second word.
+fn form_of(line: &[u8; 270002]) -> Form {
+    let call = line[0];
+    let kinds = contents(call) << 36;
+    if kinds == 0 {
+        Form { call: 0, kinds }
+    } else if call < b'a' {
+        Form { call, kinds }
+    } else if line[2] == b'=' {
+        Form {
+            call,
+            kinds: kinds | 9,
         }
-        i += 1;
-    }
-    i
-}
-
-fn no_word() -> Word {
-    Word {
-        fits: false,
-        value: 0,
-        start: 0,
-        next: 0,
+    } else {
+        Form {
+            call,
+            kinds: kinds | RECORD,
+        }
     }
 }
 
-fn said(word: &mut [u8], kind: u8) -> Number {
-    if kind == b'x' {
-        return bytes_in(word, most(kind));
+// The word behind a space, by the place of that.
+fn word_at(line: &mut [u8; 270002], at: usize, kind: u64) -> Word {
+    if kind == 0 {
+        return Word {
+            number: 0,
+            next: at,
+        };
     }
-    if kind == b's' {
-        return bytes_in(word, most(kind));
+    if 270000 < at {
+        return Word { number: 0, next: 0 };
     }
-    number_in(word, most(kind))
-}
-
-fn word_at(line: &mut [u8], at: usize, kind: u8) -> Word {
-    let end = word_end(line, at);
-    if line.len() < end {
-        return no_word();
+    if line[at] != b' ' {
+        return Word { number: 0, next: 0 };
     }
-    if end <= at {
-        return no_word();
+    if line[at + 1] <= b' ' {
+        return Word { number: 0, next: 0 };
     }
-    let n = said(&mut line[at..end], kind);
-    Word {
-        fits: n.fits,
-        value: n.value,
-        start: at,
-        next: end + 1,
+    if kind == 9 {
+        return Word {
+            number: 0,
+            next: at + 2,
+        };
     }
-}
-
-pub fn no_words() -> Words {
-    Words {
-        fit: false,
-        last: 0,
-        values: [0u64; 9],
-        starts: [0usize; 9],
-        next: 0,
+    if kind < 7 {
+        number_at(line, at + 1, most(kind))
+    } else {
+        string_at(line, at + 1, most(kind))
     }
 }
 
-// The words of a line from `at` on, as many as there are kinds.
-pub fn words_at(line: &mut [u8], at: usize, kinds: &[u8]) -> Words {
-    let mut fit = 0 < kinds.len();
-    let mut last = 0;
-    let mut values = [0u64; 9];
-    let mut starts = [0usize; 9];
-    let mut next = at;
+// Reads the words of a line, and answers where that ended: 0 where a word is not of its kind.
+fn read_words(line: &mut [u8; 270002], f: Form, words: &mut [u64; 14]) -> usize {
+    let mut next = 1;
+    let mut kinds = f.kinds;
     let mut k = 0;
-    while k < kinds.len() {
-        if 8 < k {
-            break;
-        }
-        let w = word_at(line, next, kinds[k]);
-        if !w.fits {
-            fit = false;
-        }
-        last = w.value;
-        values[k] = w.value;
-        starts[k] = w.start;
+    while k < 14 {
+        let w = word_at(line, next, kinds % 16);
+        words[k] = w.number;
         next = w.next;
+        kinds = kinds / 16;
         k += 1;
     }
-    Words {
-        fit,
-        last,
-        values,
-        starts,
-        next,
-    }
+    next
 }
 
-// The kinds that a call's words have: those behind its letter and a colon, up to a space; none where the letter is not there.
-fn kinds(forms: &[u8], call: u8) -> &[u8] {
-    let mut i = 1;
-    while i < forms.len() {
-        if forms[i] == b':' {
-            if forms[i - 1] == call {
-                let rest = &forms[i + 1..];
-                let end = word_end(rest, 0);
-                return seen(rest, end);
-            }
+// Reads the words of a line of n bytes, and answers which call it is, 0 for none.
+pub fn words_in(line: &mut [u8; 270002], n: usize, words: &mut [u64; 14]) -> u8 {
+    if 270000 < n {
+        0
+    } else {
+        line[n] = b'\n';
+        let f = form_of(line);
+        let end = read_words(line, f, words);
+        if end != n {
+            0
+        } else if words[6] < words[7] % 262144 {
+            0
+        } else {
+            f.call
         }
-        i += 1;
     }
-    &forms[..0]
 }
 
-// The words of a call, those of a machine call behind its RECORD.
-pub fn contents(call: u8, line: &mut [u8], at: usize) -> Words {
-    let forms =
-        b"r:x e:b c:xxxs a:xxs j:bbb d:x K:x Q:xt A:xt J:x B:x D:xn T:xx N:x V:x E:xx 1:xxxsl 2:xxsl 3:bbbl 4:xl 5:l 6:l 7:bbl";
-    words_at(line, at, kinds(forms, call))
+// The number at a place.
+pub fn number(words: &[u64; 14], k: usize) -> u64
+    requires { ⌜ k < 14 ⌝ }
+{
+    words[k]
 }
 
-// Whether the words are of their kinds, and the line's last.
-pub fn are_all(line: &[u8], w: Words) -> bool {
-    if !w.fit {
-        return false;
-    }
-    if w.next == 0 {
-        return false;
-    }
-    w.next - 1 == line.len()
-}
-
-// The bytes that word k says.
-pub fn bytes(line: &[u8], w: Words, k: usize) -> &[u8] {
-    let values = w.values;
-    let starts = w.starts;
-    if 8 < k {
-        return &line[..0];
-    }
-    let start = starts[k];
-    let n = values[k] as usize;
-    if line.len() < start {
-        return &line[..0];
-    }
-    if line.len() - start < n {
-        return &line[..0];
-    }
-    let end = start + n;
-    &line[start..end]
-}
-
-// The number that word k says.
-pub fn number(w: Words, k: usize) -> u64 {
-    let values = w.values;
-    if 8 < k {
-        return 0;
-    }
-    values[k]
-}
-
-// The byte that word k says.
-pub fn byte(w: Words, k: usize) -> u8 {
-    let n = number(w, k);
+// The byte at a place.
+pub fn byte(words: &[u64; 14], k: usize) -> u8
+    requires { ⌜ k < 14 ⌝ }
+{
+    let n = words[k];
     if n < 256 { n as u8 } else { 0 }
+}
+
+// The byte string at a place.
+pub fn bytes<'a>(line: &'a [u8], words: &[u64; 14], k: usize) -> &'a [u8]
+    requires { ⌜ k < 14 ⌝ }
+{
+    let n = words[k];
+    let start = (n / 262144 % 524288) as usize;
+    let end = start + (n % 262144) as usize;
+    if line.len() < end {
+        return &line[..0];
+    }
+    &line[start..end]
 }

@@ -8,10 +8,10 @@ use Rattle.replay.proofs.buffers.fill.Statement.{statement}
 use Rattle.replay.proofs.buffers.fill.Tie as tie
 
 abbrev Inv-loop : tie.InvT-loop
-Inv-loop buffer₀ b i₀ buffer i = length buffer ≡ length buffer₀
+Inv-loop buffer₀ bytes b i₀ buffer i = length buffer ≡ length buffer₀
 
 abbrev μ-loop : tie.MeasureT-loop
-μ-loop buffer₀ b i₀ buffer i = length buffer₀ - i
+μ-loop buffer₀ bytes b i₀ buffer i = length buffer₀ - i
 
 pub fill-spec : {M : Type 1} → statement M
 fill-spec =
@@ -20,6 +20,7 @@ fill-spec =
     Inv-loop
     μ-loop
     (λ c. search needs)  -- loop-holds
+    (λ c κs. search needs)  -- byte-or-requires
     (λ c. search needs)  -- slice-write-buffer
     (λ c. search needs)  -- add-i
     (λ c. search needs)  -- loop-less

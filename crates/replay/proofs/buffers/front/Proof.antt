@@ -1,7 +1,7 @@
 -- The first bytes of a buffer, lent: a front that fits has its own length.
 -- Assumes nothing.
-use lib.Seq.{length-take-le}
 use borrow.Author.Needs.{needs}
+use lib.Seq.{length-take-le}
 use Rattle.replay.proofs.buffers.front.Statement.{statement}
 use Rattle.replay.proofs.buffers.front.Tie as tie
 

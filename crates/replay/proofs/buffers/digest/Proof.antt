@@ -3,14 +3,14 @@
 use borrow.Author.Needs.{needs}
 use Prim.Native.Nat.{_<_, _-_}
 use lib.ListN.{length}
-use Rattle.replay.proofs.digest.digest.Statement.{statement}
-use Rattle.replay.proofs.digest.digest.Tie as tie
+use Rattle.replay.proofs.buffers.digest.Statement.{statement}
+use Rattle.replay.proofs.buffers.digest.Tie as tie
 
 abbrev Inv-loop : tie.InvT-loop
-Inv-loop buffer h₀ i₀ h i = h < 4294967291
+Inv-loop buffer n h₀ i₀ h i = h < 4294967291
 
 abbrev μ-loop : tie.MeasureT-loop
-μ-loop buffer h₀ i₀ h i = length buffer - i
+μ-loop buffer n h₀ i₀ h i = length buffer - i
 
 pub digest-spec : {M : Type 1} → statement M
 digest-spec =
@@ -24,4 +24,5 @@ digest-spec =
     (λ c. search needs)  -- add-i
     (λ c. search needs)  -- loop-less
     (λ c. search needs)  -- loop-again
-    (λ c. search needs))  -- returns
+    (λ c. search needs)  -- returns
+    (λ c. search needs))  -- returns-2
