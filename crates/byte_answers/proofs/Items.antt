@@ -60,3 +60,9 @@ place-of-transfer : Gives 1 place-of.Kinds.ps place-of.Kinds.r place-of.Reads.Po
     (λ κs a x. a ≡ 13)
 unfolding walk walkIn step place itemBytes be16
 place-of-transfer κs args a x (t, s) p = p ∙ rw (t, s)
+
+-- rubbish in the reserved byte
+item-end-reserved : Gives 1 item-end.Kinds.ps item-end.Kinds.r item-end.Reads.Post
+    (λ κs args. (now (args .0) ≡ 0x40 ∷ 0xFF ∷ 0 ∷ 1 ∷ 9 ∷ []) × (args .1 .0 ≡ 0)) (λ κs a x. a ≡ 5)
+unfolding itemEnd be16
+item-end-reserved κs args a x (s, at) p = p ∙ rw (s, at)

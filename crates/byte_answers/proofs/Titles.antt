@@ -12,6 +12,7 @@ use Rattle.titles.specs.Own.{listOk, known}
 use Rattle.titles.specs.declared.own.Known.the-variants.{Yes, No, Refused}
 use Rattle.titles.proofs.title_ok as title-ok
 use Rattle.titles.proofs.title_known as title-known
+use Rattle.titles.proofs.titles_equal as titles-equal
 
 title-ok-backslash : Gives 1 title-ok.Kinds.ps title-ok.Kinds.r title-ok.Reads.Post
     (λ κs args. now (args .0) ≡ bytes "STORE\\EQUINE    ")
@@ -37,3 +38,8 @@ title-known-bad-list : Gives 2 title-known.Kinds.ps title-known.Kinds.r title-kn
     (λ κs args. (now (args .0) ≡ bytes "CT-1            CT\\2            ") × (now (args .1 .0) ≡ bytes "CT-1            ")) (λ κs a x. a ≡ Refused)
 unfolding known listOk titleOk titlesEqual trimEnd
 title-known-bad-list κs args a x (own, sought) p = p ∙ rw (own, sought)
+
+titles-equal-outer : Gives 2 titles-equal.Kinds.ps titles-equal.Kinds.r titles-equal.Reads.Post
+    (λ κs args. (now (args .0) ≡ bytes " STORE-EQUINE   ") × (now (args .1 .0) ≡ bytes "STORE-EQUINE    ")) (λ κs a x. a ≡ true)
+unfolding titlesEqual trimEnd
+titles-equal-outer κs args a x (s, t) p = p ∙ rw (s, t)

@@ -19,17 +19,19 @@ use Rattle.pdvs.specs.Data.{pdvStep, pdvsIn, pdvs, pdvOk, pdvsOk}
 use Rattle.sheets.specs.Contexts.{contextOk, transferOk, answeredOk, contextsOk, allAnsweredOk}
 use Rattle.sheets.specs.Sheet.{recordBytes, recordsOf, cap, abstractOf, transferOf, goesOn, start, runs, contextsIn, answeredOf, answersIn, fieldOk, fieldsOk, proposes, answers, proposalOk, answersOk}
 use Rattle.writing.specs.Fields.{rqOf, acOf, rejectOf, itemsOf, rqGood, acGood, rejectGood, itemsGood}
-use Rattle.writing.specs.Ten.{rejectBytes}
+use Rattle.writing.specs.Ten.{tens, tenOf, rejectBytes}
 use Rattle.writing.specs.Wire.{pduBytes, frameItems, frameBytes, ourUser, contextBody, answerBody, rqFrame, acFrame}
 use Rattle.writing.specs.Form.{refusalOf, rqForm, acForm, rejectForm, mostOf, dataForm}
 use Rattle.writing.specs.Cases.{asking, accepting}
 use Rattle.table.specs.Names.{AE-2, AE-7, AE-8, AR-7}
+use Rattle.table.specs.Actions.{actions, doesOf, nextOf, artimOf}
 use Rattle.table.specs.Table.{table, cellOf, isReceived}
 use Rattle.association.specs.declared.Assoc.{Assoc}
 use Rattle.association.specs.Record.{dropping, timed, strayState, overfull, strayDeaf, mistimed, badLength, markedIdle, clauses, broken}
 use Rattle.association.specs.Refusals.{recordRefusal, refusedWith}
 use Rattle.association.specs.Events.{plainSends}
 use Rattle.association.specs.Events.{Local.plain as by-number, Local.confirm as confirming, Local.accept as accepts, Local.reject as rejects, Local.send as sending}
+use Rattle.association.specs.Deeds.{requestorAfter, entering, after, tenBy}
 use Rattle.association.specs.Machine.{doing, localCell, requestRefusal, onLocal}
 use Rattle.association.specs.Calls.{Call, localRefusal, localOf}
 use Rattle.requests.proofs.event as event
@@ -48,6 +50,13 @@ event-without-contents : Gives 2 event.Kinds.ps event.Kinds.r event.Reads.Post
     (λ κs a x. a .told .refusal ≡ 4)
 unfolding localOf localRefusal recordRefusal broken clauses strayState overfull dropping strayDeaf mistimed timed markedIdle badLength requestRefusal localCell isReceived among cellOf table refusalOf plainSends refusedWith
 event-without-contents κs args a x (r, n, g, o) p = ap (λ (c : Call). c .answer .told .refusal) (p ∙ (λ i. localOf (r i) (g i) (o i) (by-number (n i))))
+
+-- a transport connection is indicated
+event-indicates : Gives 2 event.Kinds.ps event.Kinds.r event.Reads.Post
+    (λ κs args. (args .0 ≡ sta 1 0) × (args .1 .0 ≡ 5) × (now (args .1 .1 .0) ≡ []) × (now (args .1 .1 .1 .0) ≡ []))
+    (λ κs a x. a .assoc .state ≡ 2)
+unfolding localOf localRefusal recordRefusal broken clauses strayState overfull dropping strayDeaf mistimed timed markedIdle badLength requestRefusal localCell isReceived among cellOf table refusalOf plainSends refusedWith onLocal doing after entering requestorAfter nextOf artimOf doesOf actions tenBy tenOf tens
+event-indicates κs args a x (r, n, g, o) p = ap (λ (c : Call). c .answer .assoc .state) (p ∙ (λ i. localOf (r i) (g i) (o i) (by-number (n i))))
 
 -- case 3's RQ, with just the room that it needs; the called title stands behind ten bytes
 confirm-sends : Gives 6 confirm.Kinds.ps confirm.Kinds.r confirm.Reads.Post

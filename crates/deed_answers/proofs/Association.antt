@@ -135,6 +135,12 @@ unfolding lengthField be32 be16
 length-of-a-header κs args a x g p = p ∙ rw g
 
 -- a local event with 3 bytes gathered needs a gather buffer of 3
+-- a record that is deaf in Sta6
+deaf-in-sta6 : Gives 1 record-refusal.Kinds.ps record-refusal.Kinds.r record-refusal.Reads.Post
+    (λ κs args. (args .0 ≡ record { state = 6; gathered = 0; deaf = true; artim = false; requestor = false; «peer_max» = 0 }) × (now (args .1 .0) ≡ [])) (λ κs a x. a ≡ 6)
+unfolding recordRefusal broken clauses strayState overfull droppingOf strayDeaf mistimed timed markedIdle badLength
+deaf-in-sta6 κs args a x (r, s) p = p ∙ rw (s, r)
+
 just-long-enough : Gives 1 record-refusal.Kinds.ps record-refusal.Kinds.r record-refusal.Reads.Post
     (λ κs args. (args .0 ≡ gathering 3) × (now (args .1 .0) ≡ 4 ∷ 0 ∷ 0 ∷ []) × (args .1 .1 .0 ≡ 3)) (λ κs a x. a ≡ 0)
 unfolding recordRefusal broken clauses strayState overfull droppingOf strayDeaf mistimed timed markedIdle badLength

@@ -4,13 +4,26 @@ use mathlib.Core.Path.{_≡_, _∙_}
 use mathlib.Core.Bool.{true, false}
 use Rattle.laws.specs.Lists.{among}
 use Rattle.laws.proofs.Agree.{Gives}
-use Rattle.table.specs.Names.{AE-6, AE-8, AR-6, AA-3}
+use Rattle.table.specs.Names.{AE-6, AE-8, AR-6, AR-8, AA-3, AA-8}
 use Rattle.table.specs.Actions.{actions, doesOf, nextOf, showsOf, artimOf}
-use Rattle.table.specs.Table.{isReceived}
+use Rattle.table.specs.Table.{table, cellOf, isReceived}
+use Rattle.table.proofs.cell as cell
 use Rattle.table.proofs.next_state as next-state
 use Rattle.table.proofs.artim_after as artim-after
 use Rattle.table.proofs.shows as shows
 use Rattle.table.proofs.is_received as is-received
+
+-- a P-DATA-TF that comes while our release response is awaited
+data-in-sta8 : Gives 0 cell.Kinds.ps cell.Kinds.r cell.Reads.Post
+    (λ κs args. (args .0 ≡ 10) × (args .1 .0 ≡ 8)) (λ κs a x. a ≡ AA-8)
+unfolding cellOf table
+data-in-sta8 κs args a x (event, state) p = p ∙ rw (event, state)
+
+-- a release collision: the requestor goes to Sta9, the acceptor to Sta10
+collision-at-the-acceptor : Gives 0 next-state.Kinds.ps next-state.Kinds.r next-state.Reads.Post
+    (λ κs args. (args .0 ≡ AR-8) × (args .1 .1 .0 ≡ false)) (λ κs a x. a ≡ 10)
+unfolding actions doesOf nextOf
+collision-at-the-acceptor κs args a x (action, requestor) p = p ∙ rw (action, requestor)
 
 -- data that comes after our release request is indicated, and the release goes on
 data-stays-in-sta7 : Gives 0 next-state.Kinds.ps next-state.Kinds.r next-state.Reads.Post

@@ -32,6 +32,13 @@ no-title : Gives 1 kind-of.Kinds.ps kind-of.Kinds.r kind-of.Reads.Post
 unfolding kindOf validAs whole requestOk itemBytes titleOk be16 be32
 no-title κs args a x s p = p ∙ ap kindOf s
 
+-- an AC without version bit 0
+no-version-bit : Gives 1 kind-of.Kinds.ps kind-of.Kinds.r kind-of.Reads.Post
+    (λ κs args. now (args .0) ≡ accept 2)
+    (λ κs a x. a ≡ 0)
+unfolding kindOf validAs whole acceptOk itemBytes be16 be32
+no-version-bit κs args a x s p = p ∙ ap kindOf s
+
 -- ---- acceptable
 -- an RQ with version 0002H: valid, but not acceptable
 version-two : Gives 1 acceptable.Kinds.ps acceptable.Kinds.r acceptable.Reads.Post

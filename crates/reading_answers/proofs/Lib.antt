@@ -1,3 +1,4 @@
+pub mod Reasons
 pub mod Pdvs
 pub mod Pdus
 pub mod Judging

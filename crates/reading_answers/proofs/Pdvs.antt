@@ -23,3 +23,10 @@ received-bits : Gives 1 pdvs-ok.Kinds.ps pdvs-ok.Kinds.r pdvs-ok.Reads.Post
     (λ κs a x. a ≡ true)
 unfolding be16 be32 pdvStep pdvsIn pdvs pdvOk pdvsOk
 received-bits κs args a x (m, s) p = p ∙ ap₂ pdvsOk m s
+
+-- a PDV with ID 2
+even-id : Gives 1 pdvs-ok.Kinds.ps pdvs-ok.Kinds.r pdvs-ok.Reads.Post
+    (λ κs args. (args .0 ≡ 255) × (now (args .1 .0) ≡ 0 ∷ 0 ∷ 0 ∷ 2 ∷ 2 ∷ 0 ∷ []))
+    (λ κs a x. a ≡ false)
+unfolding be16 be32 pdvStep pdvsIn pdvs pdvOk pdvsOk
+even-id κs args a x (m, s) p = p ∙ ap₂ pdvsOk m s

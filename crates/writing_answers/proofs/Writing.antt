@@ -3,21 +3,24 @@
 use mathlib.Core.Path.{_≡_, _∙_, ap}
 use mathlib.Core.List.{_∷_, []}
 use denote.Ref.{now}
-use lib.ListN.{replicate}
+use lib.ListN.{length, replicate}
 use Rattle.laws.specs.Lists.{among}
 use Rattle.laws.proofs.Agree.{Gives}
+use Rattle.octets.specs.Octets.{be16, be32}
 use Rattle.octets.specs.Put.{put, placed, front}
 use Rattle.reasons.specs.Values.{rejectReasons, rejectOk, abortOk}
 use Rattle.writing.specs.declared.Sent.{Sent}
-use Rattle.writing.specs.Fields.{rejectGood, abortGood}
+use Rattle.pdvs.specs.Data.{pdvStep, pdvsIn, pdvs, pdvOk, pdvsOk}
+use Rattle.writing.specs.Fields.{itemsOf, rejectGood, itemsGood, abortGood}
 use Rattle.writing.specs.Ten.{ABORT-UNRECOGNIZED, tens, tenOf, rejectBytes, abortBytes}
-use Rattle.writing.specs.Form.{refusalOf, sentBytes, sentOf, rejectForm, releaseRqForm, releaseRpForm, abortForm}
+use Rattle.writing.specs.Form.{refusalOf, sentBytes, sentOf, rejectForm, dataForm, releaseRqForm, releaseRpForm, abortForm}
 use Rattle.writing.proofs.ten_len as ten-len
 use Rattle.writing.proofs.write_ten as write-ten
 use Rattle.writing.proofs.write_reject as write-reject
 use Rattle.writing.proofs.write_release_request as write-release-request
 use Rattle.writing.proofs.write_release_response as write-release-response
 use Rattle.writing.proofs.write_abort as write-abort
+use Rattle.writing.proofs.write_data as write-data
 
 -- ---- the fixed ones, by number: 1 to 7
 
@@ -79,3 +82,12 @@ abort-bytes : Gives 1 write-abort.Kinds.ps write-abort.Kinds.r write-abort.Reads
     (λ κs a x. now (x .1 .1 .0) ≡ 0x07 ∷ 0 ∷ 0 ∷ 0 ∷ 0 ∷ 4 ∷ 0 ∷ 0 ∷ 2 ∷ 5 ∷ [])
 unfolding front sentBytes refusalOf abortForm abortGood abortOk among abortBytes
 abort-bytes κs args a x (source, reason, o) p = p .out ∙ rw (o, source, reason)
+
+-- ---- P-DATA-TF
+
+-- a PDV with ID 2, and longer than the peer takes
+bad-and-long : Gives 2 write-data.Kinds.ps write-data.Kinds.r write-data.Reads.Post
+    (λ κs args. (now (args .0) ≡ 0 ∷ 0 ∷ 0 ∷ 3 ∷ 2 ∷ 3 ∷ 9 ∷ []) × (args .1 .0 ≡ 6)) (λ κs a x. a .refusal ≡ 4)
+unfolding sentOf refusalOf dataForm itemsGood pdvsOk pdvs pdvsIn pdvStep pdvOk be32 be16
+bad-and-long κs args a x (s, peer) p =
+    ap (λ (s : Sent). s .refusal) (p .answer ∙ (λ i. sentOf (dataForm (peer i) (itemsOf (s i))) (length (now (args .1 .1 .0)))))
