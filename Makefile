@@ -8,7 +8,7 @@ run:
 	@rt check listen 2>&1 | grep '^rt: '
 	@echo
 	@echo "What DCMTK's echoscu sent, through listen: action, state after, bytes sent"
-	@target/bin/listen < tests/listen/dcmtk_echo.in
+	@. tests/tools.sh; need_x86; x86_run target/bin/listen < tests/listen/dcmtk_echo.in
 
 # The gate: every proof, every must-fail edit, every program, every other test.
 test:

@@ -1,12 +1,15 @@
 -- What the contracts of `octets` permit at given arguments.
 -- Assumes nothing.
 use mathlib.Core.Path.{_≡_, _∙_}
+-- both: an edit states the one that the fact does not
+use mathlib.Core.Bool.{true, false}
 use mathlib.Core.List.{_∷_, []}
 use denote.Ref.{now}
 use Rattle.laws.proofs.Agree.{Gives}
 use Rattle.octets.specs.Octets.{be16, be32}
 use Rattle.octets.specs.Put.{put as putAt, placed, placeBehind}
 use Rattle.octets.proofs.byte_at as byte-at
+use Rattle.octets.proofs.same_bytes as same-bytes
 use Rattle.octets.proofs.be16_at as be16-at
 use Rattle.octets.proofs.be32_at as be32-at
 use Rattle.octets.proofs.two_of as two-of
@@ -65,3 +68,8 @@ put-narrow : Gives 2 put.Kinds.ps put.Kinds.r put.Reads.Post
     (λ κs a x. (a ≡ 2) × (now (x .0) ≡ 7 ∷ 8 ∷ 9 ∷ []))
 unfolding placed placeBehind putAt
 put-narrow κs args a x (o, at, bs) p = (p .behind ∙ rw (o, at, bs), p .out ∙ rw (o, at, bs))
+
+-- the one goes on where the other ends
+same-bytes-longer : Gives 2 same-bytes.Kinds.ps same-bytes.Kinds.r same-bytes.Reads.Post
+    (λ κs args. (now (args .0) ≡ 7 ∷ 8 ∷ []) × (now (args .1 .0) ≡ 7 ∷ 8 ∷ 9 ∷ [])) (λ κs a x. a ≡ false)
+same-bytes-longer κs args a x (s, t) p = p ∙ rw (s, t)

@@ -39,7 +39,8 @@ title-known-bad-list : Gives 2 title-known.Kinds.ps title-known.Kinds.r title-kn
 unfolding known listOk titleOk titlesEqual trimEnd
 title-known-bad-list κs args a x (own, sought) p = p ∙ rw (own, sought)
 
-titles-equal-outer : Gives 2 titles-equal.Kinds.ps titles-equal.Kinds.r titles-equal.Reads.Post
-    (λ κs args. (now (args .0) ≡ bytes " STORE-EQUINE   ") × (now (args .1 .0) ≡ bytes "STORE-EQUINE    ")) (λ κs a x. a ≡ true)
+-- the sixth character is the last that they share
+titles-equal-exotic : Gives 2 titles-equal.Kinds.ps titles-equal.Kinds.r titles-equal.Reads.Post
+    (λ κs args. (now (args .0) ≡ bytes "STORE-EXOTIC    ") × (now (args .1 .0) ≡ bytes "STORE-EQUINE    ")) (λ κs a x. a ≡ false)
 unfolding titlesEqual trimEnd
-titles-equal-outer κs args a x (s, t) p = p ∙ rw (s, t)
+titles-equal-exotic κs args a x (s, t) p = p ∙ rw (s, t)

@@ -4,6 +4,7 @@ use mathlib.Core.Path.{_≡_}
 use denote.Ref.{now}
 use Rattle.laws.proofs.Agree.{agree, Agrees, AgreesLent}
 use Rattle.octets.proofs.byte_at as byte-at
+use Rattle.octets.proofs.same_bytes as same-bytes
 use Rattle.octets.proofs.be16_at as be16-at
 use Rattle.octets.proofs.be32_at as be32-at
 use Rattle.octets.proofs.two_of as two-of
@@ -12,6 +13,9 @@ use Rattle.octets.proofs.put as put
 
 pub byte-at-agrees : Agrees 1 byte-at.Kinds.ps byte-at.Kinds.r byte-at.Reads.Post
 byte-at-agrees κs args a b x y p q = agree p q
+
+pub same-bytes-agrees : Agrees 2 same-bytes.Kinds.ps same-bytes.Kinds.r same-bytes.Reads.Post
+same-bytes-agrees κs args a b x y p q = agree p q
 
 pub be16-at-agrees : Agrees 1 be16-at.Kinds.ps be16-at.Kinds.r be16-at.Reads.Post
 be16-at-agrees κs args a b x y p q = agree p q

@@ -1,7 +1,8 @@
-// Numbers in bytes, high byte first, and bytes put at a place of a lent buffer.
+// Numbers in bytes, high byte first, bytes compared, and bytes put at a place of a lent buffer.
 ghost use mathlib.Core.Path.{_≡_};
 ghost use Prim.Native.Nat.{_+_, _*_, _≤_};
 ghost use lib.ListN.{length, getD};
+ghost use Rattle.laws.specs.Lists.{sameBytes};
 ghost use Rattle.octets.specs.Octets.{be16, be32, two, four};
 ghost use Rattle.octets.specs.Put.{put as putAt, Placed};
 
@@ -13,6 +14,23 @@ pub fn byte_at(s: &[u8], at: usize) -> u8
         return s[at];
     }
     0
+}
+
+// Whether two runs of bytes are the same.
+pub fn same_bytes(a: &[u8], b: &[u8]) -> bool
+    ensures { λ r. ⌜ r ≡ sameBytes (now (a .entry)) (now (b .entry)) ⌝ }
+{
+    if a.len() != b.len() {
+        return false;
+    }
+    let mut i = 0;
+    while i < a.len() {
+        if a[i] != b[i] {
+            return false;
+        }
+        i += 1;
+    }
+    true
 }
 
 fn join16(high: u8, low: u8) -> u16

@@ -2,7 +2,6 @@
 ghost use mathlib.Core.Path.{_≡_};
 ghost use Prim.Native.Nat.{_+_, _≤_};
 ghost use lib.ListN.{length, take};
-ghost use Rattle.laws.specs.Lists.{sameBytes};
 ghost use Rattle.sheets.specs.Sheet.{recordBytes, cap, abstractOf, transferOf};
 ghost use Rattle.sheets.specs.Record.{recordOf, recordAt, abstractAt, transferAt, goesOnAt};
 
@@ -97,22 +96,6 @@ pub fn transfer_at(s: &[u8], at: usize) -> &[u8]
     transfer_of(record_at(s, at))
 }
 
-fn same_bytes(a: &[u8], b: &[u8]) -> bool
-    ensures { λ r. ⌜ r ≡ sameBytes (now (a .entry)) (now (b .entry)) ⌝ }
-{
-    if a.len() != b.len() {
-        return false;
-    }
-    let mut i = 0;
-    while i < a.len() {
-        if a[i] != b[i] {
-            return false;
-        }
-        i += 1;
-    }
-    true
-}
-
 // Whether the record behind the one at a place goes on its run.
 pub fn goes_on(s: &[u8], at: usize) -> bool
     ensures { λ r. ⌜ r ≡ goesOnAt (now (s .entry)) at ⌝ }
@@ -127,5 +110,5 @@ pub fn goes_on(s: &[u8], at: usize) -> bool
     if s[at] != s[e] {
         return false;
     }
-    same_bytes(abstract_at(s, at), abstract_at(s, e))
+    octets::same_bytes(abstract_at(s, at), abstract_at(s, e))
 }

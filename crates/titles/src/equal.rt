@@ -2,7 +2,6 @@
 ghost use mathlib.Core.Path.{_≡_};
 ghost use Prim.Native.Nat.{_≤_};
 ghost use lib.ListN.{length, take, drop};
-ghost use Rattle.laws.specs.Lists.{sameBytes};
 ghost use Rattle.titles.specs.Title.{trimStart, trimEnd, trim, titlesEqual};
 
 // The index of the first byte that is no space, or the length.
@@ -42,25 +41,9 @@ fn trimmed(s: &[u8]) -> &[u8]
     &t[..e]
 }
 
-fn same_bytes(a: &[u8], b: &[u8]) -> bool
-    ensures { λ r. ⌜ r ≡ sameBytes (now (a .entry)) (now (b .entry)) ⌝ }
-{
-    if a.len() != b.len() {
-        return false;
-    }
-    let mut i = 0;
-    while i < a.len() {
-        if a[i] != b[i] {
-            return false;
-        }
-        i += 1;
-    }
-    true
-}
-
 // Whether two titles are equal after their leading and trailing spaces go.
 pub fn titles_equal(a: &[u8], b: &[u8]) -> bool
     ensures { λ r. ⌜ r ≡ titlesEqual (now (a .entry)) (now (b .entry)) ⌝ }
 {
-    same_bytes(trimmed(a), trimmed(b))
+    octets::same_bytes(trimmed(a), trimmed(b))
 }

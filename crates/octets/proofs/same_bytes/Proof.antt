@@ -5,8 +5,8 @@ use mathlib.Core.Path.{_≡_}
 use lib.ListN.{length, drop}
 use Rattle.laws.specs.Lists.{sameBytes}
 use Rattle.laws.proofs.Same.{same-laws}
-use Rattle.titles.proofs.equal.same_bytes.Statement.{statement}
-use Rattle.titles.proofs.equal.same_bytes.Tie as tie
+use Rattle.octets.proofs.same_bytes.Statement.{statement}
+use Rattle.octets.proofs.same_bytes.Tie as tie
 
 abbrev Inv-loop : tie.InvT-loop
 Inv-loop a b i₀ i = (i ≤ length a) × (sameBytes (drop i a) (drop i b) ≡ sameBytes a b)
