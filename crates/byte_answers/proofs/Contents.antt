@@ -20,8 +20,11 @@ use Rattle.contents.proofs.maximum_in as maximum-in
 abbrev name : List ℕ
 name = bytes "1.2"
 
+abbrev with-id : ℕ → List ℕ
+with-id n = itemBytes 0x20 (n ∷ 0 ∷ 0 ∷ 0 ∷ (itemBytes 0x30 name ++ itemBytes 0x40 name))
+
 abbrev context : List ℕ
-context = itemBytes 0x20 (1 ∷ 0 ∷ 0 ∷ 0 ∷ (itemBytes 0x30 name ++ itemBytes 0x40 name))
+context = with-id 1
 
 -- the items of an RQ with a maximum of 81,920, and before the 50H a 51H of 1,024, which is skipped there
 abbrev items : List ℕ
@@ -64,9 +67,15 @@ items-ok-turned κs args a x (k, s) p = p ∙ rw (k, s)
 
 -- a context with ID 2
 items-ok-even : Gives 1 items-ok.Kinds.ps items-ok.Kinds.r items-ok.Reads.Post
-    (λ κs args. (args .0 ≡ 0x20) × (now (args .1 .0) ≡ asked (itemBytes 0x20 (2 ∷ 0 ∷ 0 ∷ 0 ∷ (itemBytes 0x30 name ++ itemBytes 0x40 name))) user)) (λ κs a x. a ≡ false)
+    (λ κs args. (args .0 ≡ 0x20) × (now (args .1 .0) ≡ asked (with-id 2) user)) (λ κs a x. a ≡ false)
 unfolding itemsOk ids topGood topNext contextGood good20H subGood subNext good50H one nameOk walk walkIn step filled bodies keeps itemBytes be16 among distinct
 items-ok-even κs args a x (k, s) p = p ∙ rw (k, s)
+
+-- IDs 1, 3 and 1
+items-ok-twice : Gives 1 items-ok.Kinds.ps items-ok.Kinds.r items-ok.Reads.Post
+    (λ κs args. (args .0 ≡ 0x20) × (now (args .1 .0) ≡ asked (context ++ (with-id 3 ++ context)) user)) (λ κs a x. a ≡ false)
+unfolding itemsOk ids topGood topNext contextGood good20H subGood subNext good50H one nameOk walk walkIn step filled bodies keeps itemBytes be16 among distinct
+items-ok-twice κs args a x (k, s) p = p ∙ rw (k, s)
 
 maximum-in-user : Gives 1 maximum-in.Kinds.ps maximum-in.Kinds.r maximum-in.Reads.Post
     (λ κs args. now (args .0) ≡ items)

@@ -45,3 +45,13 @@ over-length-in-6 : Gives 3 receive.Kinds.ps receive.Kinds.r receive.Reads.Post
     (λ κs a x. now (x .1 .1 .1 .0) ≡ 7 ∷ 0 ∷ 0 ∷ 0 ∷ 0 ∷ 4 ∷ 0 ∷ 0 ∷ 2 ∷ 6 ∷ [])
 unfolding receiveOf receiveRefusal heard recordRefusal broken clauses strayState overfull strayDeaf mistimed badLength markedIdle timed dropping eng.receive frame lengthField be32 be16 put front onEvent doing eventOf eventOfKind after entering requestorAfter peerAt acceptsAt abortFor tenBy tenOf tens table cellOf actions doesOf nextOf showsOf artimOf kindOf acceptable maximumOf whole validAs releaseOk among
 over-length-in-6 κs args a x (r, g, s, o) p = ap (λ (c : Call). c .out) (p ∙ (λ i. receiveOf (r i) (g i) (s i) (o i)))
+
+-- the header of a P-DATA-TF of six bytes, and nothing yet of its body
+header-alone-in-6 : Gives 3 receive.Kinds.ps receive.Kinds.r receive.Reads.Post
+    (λ κs args. (args .0 ≡ record { state = 6; gathered = 0; deaf = false; artim = false; requestor = false; «peer_max» = 0 })
+    × (now (args .1 .0) ≡ replicate 16390 0)
+    × (now (args .1 .1 .0) ≡ 4 ∷ 0 ∷ 0 ∷ 0 ∷ 0 ∷ 6 ∷ [])
+    × (now (args .1 .1 .1 .0) ≡ replicate 10 0))
+    (λ κs a x. a .told .action ≡ 0)
+unfolding receiveOf receiveRefusal heard recordRefusal broken clauses strayState overfull strayDeaf mistimed badLength markedIdle timed dropping eng.receive frame lengthField be32 be16 put front onEvent doing eventOf eventOfKind after entering requestorAfter peerAt acceptsAt abortFor tenBy tenOf tens table cellOf actions doesOf nextOf showsOf artimOf kindOf acceptable maximumOf whole validAs releaseOk among
+header-alone-in-6 κs args a x (r, g, s, o) p = ap (λ (c : Call). c .answer .told .action) (p ∙ (λ i. receiveOf (r i) (g i) (s i) (o i)))

@@ -3,7 +3,7 @@
 use mathlib.Core.Path.{_≡_, _∙_, ap}
 use denote.Ref.{now}
 use Prim.Native.Nat.{ℕ}
-use mathlib.Core.List.{List}
+use mathlib.Core.List.{List, [], _∷_}
 use lib.ListN.{length, take, drop, replicate}
 use Rattle.laws.proofs.Agree.{Gives}
 use Rattle.writing.specs.declared.Sent.{Sent}
@@ -35,9 +35,11 @@ one-byte-less : Gives 4 write-accept.Kinds.ps write-accept.Kinds.r write-accept.
 unfolding sentOf refusalOf acForm acGood
 one-byte-less κs args a x echoed p = ap (λ (s : Sent). s .refusal) (p .answer) ∙ rw echoed
 
--- case 3's RQ over an output full of FFH: the 32 reserved bytes behind the titles
+-- case 3's RQ over an output full of FFH: the 32 reserved bytes behind the titles, then the 10H
 request-reserved : Gives 5 write-request.Kinds.ps write-request.Kinds.r write-request.Reads.Post
     (λ κs args. (rqOf (now (args .0)) (now (args .1 .0)) (now (args .1 .1 .0)) (now (args .1 .1 .1 .0)) ≡ asking) × (now (args .1 .1 .1 .1 .0) ≡ replicate 161 255))
-    (λ κs a x. take 32 (drop 42 (now (x .1 .1 .1 .1 .0))) ≡ replicate 32 0)
+    (λ κs a x. (take 32 (drop 42 (now (x .1 .1 .1 .1 .0))) ≡ replicate 32 0) × (take 1 (drop 74 (now (x .1 .1 .1 .1 .0))) ≡ 0x10 ∷ []))
 unfolding front sentBytes refusalOf rqForm rqGood titleOk nameOk proposalOk recordsOf proposes fieldsOk fieldOk contextsOk contextOk distinct contextsIn runs start goesOn abstractOf transferOf cap asking recordBytes rqFrame frameBytes frameItems pduBytes itemBytes ourUser contextBody among
-request-reserved κs args a x (f, o) p = ap (λ (l : List ℕ). take 32 (drop 42 l)) (p .out ∙ (λ i. front (o i) (sentBytes (rqForm (f i)) (length (o i)))))
+request-reserved κs args a x (f, o) p =
+    let q = p .out ∙ (λ i. front (o i) (sentBytes (rqForm (f i)) (length (o i)))) in
+    (ap (λ (l : List ℕ). take 32 (drop 42 l)) q, ap (λ (l : List ℕ). take 1 (drop 74 l)) q)

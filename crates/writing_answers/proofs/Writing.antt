@@ -13,7 +13,8 @@ use Rattle.writing.specs.declared.Sent.{Sent}
 use Rattle.pdvs.specs.Data.{pdvStep, pdvsIn, pdvs, pdvOk, pdvsOk}
 use Rattle.writing.specs.Fields.{itemsOf, rejectGood, itemsGood, abortGood}
 use Rattle.writing.specs.Ten.{ABORT-UNRECOGNIZED, tens, tenOf, rejectBytes, abortBytes}
-use Rattle.writing.specs.Form.{refusalOf, sentBytes, sentOf, rejectForm, dataForm, releaseRqForm, releaseRpForm, abortForm}
+use Rattle.writing.specs.Wire.{pduBytes}
+use Rattle.writing.specs.Form.{refusalOf, sentBytes, sentOf, mostOf, rejectForm, dataForm, releaseRqForm, releaseRpForm, abortForm}
 use Rattle.writing.proofs.ten_len as ten-len
 use Rattle.writing.proofs.write_ten as write-ten
 use Rattle.writing.proofs.write_reject as write-reject
@@ -91,3 +92,10 @@ bad-and-long : Gives 2 write-data.Kinds.ps write-data.Kinds.r write-data.Reads.P
 unfolding sentOf refusalOf dataForm itemsGood pdvsOk pdvs pdvsIn pdvStep pdvOk be32 be16
 bad-and-long κs args a x (s, peer) p =
     ap (λ (s : Sent). s .refusal) (p .answer ∙ (λ i. sentOf (dataForm (peer i) (itemsOf (s i))) (length (now (args .1 .1 .0)))))
+
+-- a PDU of 13 bytes in an output of 15: the two behind it stay
+room-to-spare : Gives 2 write-data.Kinds.ps write-data.Kinds.r write-data.Reads.Post
+    (λ κs args. (now (args .0) ≡ 0 ∷ 0 ∷ 0 ∷ 3 ∷ 1 ∷ 3 ∷ 9 ∷ []) × (args .1 .0 ≡ 0) × (now (args .1 .1 .0) ≡ replicate 15 255))
+    (λ κs a x. now (x .1 .1 .0) ≡ 4 ∷ 0 ∷ 0 ∷ 0 ∷ 0 ∷ 7 ∷ 0 ∷ 0 ∷ 0 ∷ 3 ∷ 1 ∷ 3 ∷ 9 ∷ 255 ∷ 255 ∷ [])
+unfolding front sentBytes refusalOf dataForm itemsGood pdvsOk pdvs pdvsIn pdvStep pdvOk be32 be16 mostOf pduBytes
+room-to-spare κs args a x (s, peer, o) p = p .out ∙ (λ i. front (o i) (sentBytes (dataForm (peer i) (itemsOf (s i))) (length (o i))))
