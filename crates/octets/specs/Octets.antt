@@ -21,6 +21,6 @@ two n = n / 256 ∷ n % 256 ∷ []
 abbrev pub four : ℕ → List ℕ
 four n = n / 16777216 ∷ n / 65536 % 256 ∷ n / 256 % 256 ∷ n % 256 ∷ []
 
--- of an ID of a context or of a PDV
+-- of the ID of a context or of a PDV, and of a version that has bit 0
 abbrev pub odd : ℕ → Bool
 odd n = eqb (n % 2) 1

@@ -4,6 +4,7 @@ use Prim.Native.Nat.{ℕ, _+_, _-_, _≤_, _<_}
 use mathlib.Core.Path.{_≡_, refl, sym, ap, _∙_}
 use mathlib.Core.Bool.{Bool, true, false, cond}
 use mathlib.Core.List.{List, _++_}
+use native.Mathlib.Nat.{add-sub-of-le}
 use native.Mathlib.Omega.{arith}
 use native.Mathlib.Decide.{decLt}
 use lib.Dec.{leb, ltb}
@@ -43,15 +44,15 @@ pub wanted-at : (have need : ℕ) {n w : ℕ} → w ≡ wantOf have need n → W
 wanted-at have need {n} e = rw e (wanted have need n)
 
 -- ---- one copy
+pub fill-sum : (b : List ℕ) (c from need : ℕ) (p : List ℕ) → Fills b c from need p → c + from ≤ length b
+fill-sum b c from need p F = omega (arith, F .up, F .room)
+
 module _ (b : List ℕ) (c from need : ℕ) (p : List ℕ) (F : Fills b c from need p) (to : ℕ) (e : to ≡ wantOf c need (length p)) where
   pub fill-up : from ≤ to
   fill-up = omega (arith, F .up)
 
   pub fill-some : to ≤ length p
   fill-some = wanted-at c need e .some
-
-  pub fill-sum : c + from ≤ length b
-  fill-sum = omega (arith, F .up, F .room)
 
   pub fill-done : (b′ : List ℕ) (r : ℕ) → Placed b (c + from) (take (to - from) (drop from p)) r b′ → Filled b c from need p b′ to
   fill-done b′ r P =
@@ -61,6 +62,10 @@ module _ (b : List ℕ) (c from need : ℕ) (p : List ℕ) (F : Fills b c from n
 pub ruleset fill-laws = (needs, fill-up, fill-some, fill-sum, fill-done)
 
 -- ---- a copy in two
+-- the first n, and those from there on to m
+pub take-on : (n m : ℕ) (l : List ℕ) → n ≤ m → take n l ++ take (m - n) (drop n l) ≡ take m l
+take-on n m l h = sym (take-add n (m - n) l) ∙ ap (λ (k : ℕ). take k l) (add-sub-of-le h)
+
 module _ (b : List ℕ) (c from need : ℕ) (p : List ℕ) (F : Fills b c from need p) (mid : ℕ) (C : Cut (c + from) need mid) where
   W : Wanted c need (length p) (wantOf c need (length p))
   W = wanted c need (length p)
@@ -91,9 +96,6 @@ module _ (b : List ℕ) (c from need : ℕ) (p : List ℕ) (F : Fills b c from n
   lead-fills = record { up = reached; room = omega (arith, fewer, F .room) }
 
   module _ (b₁ : List ℕ) (k : ℕ) (L : Filled b c from mid p b₁ k) where
-    lead : List ℕ
-    lead = take (k - from) (drop from p)
-
     up-to : from ≤ k
     up-to = omega (arith, reached, L .to)
 
@@ -119,20 +121,14 @@ module _ (b : List ℕ) (c from need : ℕ) (p : List ℕ) (F : Fills b c from n
       pub rest-done : Filled b c from need p b₂ r
       rest-done =
           let place : c + k ≡ c + from + length (take (k - from) (drop from p)) = omega (arith, lead-length, up-to) in
-          let sum : k - from + (r - k) ≡ r - from = omega (arith, up-to, on) in
-          let past : from + (k - from) ≡ k = omega (arith, up-to) in
+          let left : r - from - (k - from) ≡ r - k = omega (arith, up-to, on) in
+          let past : drop (k - from) (drop from p) ≡ drop k p = drop-drop (k - from) from p ∙ ap (λ (n : ℕ). drop n p) (add-sub-of-le up-to) in
           let joined : take (k - from) (drop from p) ++ take (r - k) (drop k p) ≡ take (r - from) (drop from p) =
-          ap (λ (m : ℕ). take (k - from) (drop from p) ++ take (r - k) (drop m p)) (sym past)
-          ∙ (ap (λ (l : List ℕ). take (k - from) (drop from p) ++ take (r - k) l) (sym (drop-drop (k - from) from p))
-          ∙ (sym (take-add (k - from) (r - k) (drop from p)) ∙ ap (λ (m : ℕ). take m (drop from p)) sum)) in
+          rw (← left, ← past) (take-on (k - from) (r - from) (drop from p) (omega (arith, on))) in
           record {
             to = R .to;
             room = omega (arith, R .room, lead-kept);
             buffer = R .buffer ∙ (rw (L .buffer, place) (put-put b (c + from) (take (k - from) (drop from p)) (take (r - k) (drop k p)) lead-room) ∙ ap (put b (c + from)) joined);
           }
 
-  -- the sum of the places is within the buffer
-  pub sum-fits : c + from ≤ length b
-  sum-fits = omega (arith, F .up, F .room)
-
-pub ruleset lines-laws = (needs, sum-fits, lead-fills, rest-fills, rest-done)
+pub ruleset lines-laws = (needs, fill-sum, lead-fills, rest-fills, rest-done)

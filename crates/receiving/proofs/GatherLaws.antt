@@ -4,12 +4,12 @@ use Prim.Native.Nat.{ℕ, _+_, _-_, _≤_, _<_}
 use mathlib.Core.Path.{_≡_, refl, sym, ap, _∙_}
 use mathlib.Core.Bool.{Bool, true, false, cond}
 use mathlib.Core.List.{List, _++_, append-assoc}
-use native.Mathlib.Nat.{add-sub-of-le, add-zero, sub-zero}
+use native.Mathlib.Nat.{add-zero, sub-zero}
 use native.Mathlib.Omega.{arith}
 use native.Mathlib.Decide.{decLt}
 use lib.Dec.{leb, ltb}
 use lib.ListN.{length, take, drop, length-append, length-drop, take-append-drop}
-use lib.Seq.{length-take-le, take-add}
+use lib.Seq.{length-take-le}
 use borrow.Author.Needs.{needs}
 use borrow.Author.Tests.{leb-true, leb-false, ltb-true, ltb-false}
 use Rattle.laws.proofs.Tests.{follow}
@@ -19,7 +19,7 @@ use Rattle.framing.specs.Framing.{Frame, frame, lengthField, Frame.short, Frame
 use Rattle.framing.proofs.Framing.{frame-few, frame-part, frame-over, frame-full, length-take-field, length-append-field, no-event-yet}
 use Rattle.framing.proofs.Buffers.{take-put}
 use Rattle.receiving.specs.Gathering.{wantOf, Fills, Filled, Fit, Gathered}
-use Rattle.receiving.proofs.FillLaws.{Wanted, wanted, wanted-at}
+use Rattle.receiving.proofs.FillLaws.{Wanted, wanted, wanted-at, take-on}
 use Rattle.receiving.proofs.NewLaws.{opens, behind-none}
 use Rattle.receiving.specs.declared.gather.Head.{Head}
 use Rattle.receiving.specs.declared.gather.Head.the-variants.{Short, Long, Whole}
@@ -136,16 +136,11 @@ module _ (b : List ℕ) (c : ℕ) (p : List ℕ) (f : Fit b c) where
           W : Wanted c (6 + len) (length p) m
           W = wanted-at c (6 + len) (G .to)
 
-          both : take h p ++ take (m - h) (drop h p) ≡ take m p
-          both =
-              let le : h ≤ m = omega (arith, up, G .to) in
-              sym (take-add h (m - h) p) ∙ ap (λ (k : ℕ). take k p) (add-sub-of-le le)
-
           second : b₂ ≡ put b c (take m p)
           second =
               G .buffer
               ∙ (rw (first, ap (λ (k : ℕ). c + k) (sym (cut h (H .some)))) (put-put b c (take h p) (take (m - h) (drop h p)) room₁)
-              ∙ ap (put b c) both)
+              ∙ ap (put b c) (take-on h m p (omega (arith, up, G .to))))
 
           pub part : c + m < 6 + len → Gathered b c p b₂ (record { used = m; head = Short })
           part k =

@@ -87,6 +87,7 @@ fn on_pdu(a: Assoc, pdu: &[u8]) -> Deed
     done(action, a, b, abort)
 }
 
+// Does what `done` does, in place: with one caller alone `done` is compiled into it, and no record is copied through memory behind a long copy.
 fn on_long(a: Assoc) -> Deed
     ensures { λ r. ⌜ Acted (onEvent invalid a long) r ⌝ }
 {
