@@ -84,8 +84,15 @@ def main():
         good, name, source = line.rstrip("\n").split(" ", 2)
         calls.append((source, f"N {words(name.encode())}", [good]))
     lines = [call for _, call, _ in calls]
-    both = zip(calls, answers([second, "answer"], lines), answers(replay, lines))
-    for (where, call, expected), theirs, ours in both:
+    answered = [answers([second, "answer"], lines), answers(replay, lines)]
+    for program, got in zip(["the second program", "replay"], answered):
+        if len(got) != len(lines):
+            sys.exit(f"{program}: {len(got)} answers to {len(lines)} calls")
+    if not count or len(calls) == count:
+        sys.exit("there is no recorded stream, or no name")
+    for (where, call, expected), theirs, ours in zip(calls, *answered):
+        if len(ours.split()) < len(expected or []):
+            sys.exit(f"{where}: {call[:200]}\n  answer: {ours}\n  expected {len(expected)} words")
         if ours != theirs:
             sys.exit(f"{where}: {call[:200]}\n  second: {theirs}\n  replay: {ours}")
         for got, wanted in zip(ours.split(), expected or []):

@@ -39,7 +39,11 @@ def compare(what, printed, wanted):
         sys.exit(f"{what}: printed {printed.decode(errors='replace')!r}, not {wanted.decode()!r}")
 
 
-names = sorted(name[:-3] for name in os.listdir(FOLDER) if name.endswith(".in"))
+files = os.listdir(FOLDER)
+names = sorted(name[:-3] for name in files if name.endswith(".in"))
+outputs = sorted(name[:-4] for name in files if name.endswith(".out"))
+if not names or names != outputs:
+    sys.exit(f"inputs without output, or outputs without input: {sorted(set(names) ^ set(outputs)) or 'there is none at all'}")
 for name in names:
     with open(os.path.join(FOLDER, name + ".in"), "rb") as f:
         data = f.read()

@@ -29,54 +29,54 @@ rest h = handed (told 0 (h .answer .action) (h .answer .used) (h .answer .sent) 
 abbrev others : Associate → Associate
 others f = associate 0 (f .version) (f .«application_at») (f .«application_len») (f .maximum) (f .records)
 
-pub receive-agrees : AgreesLent 13 receive.Kinds.ps receive.Kinds.r receive.Reads.Post
+pub feo-raw-receive-agrees : AgreesLent 13 receive.Kinds.ps receive.Kinds.r receive.Reads.Post
     (λ κs x. handed (told 0 (now (x .1 .1 .1 .1 .1 .1 .1 .1 .1 .0)) (now (x .1 .1 .1 .1 .1 .1 .1 .1 .1 .1 .0)) (now (x .1 .1 .1 .1 .1 .1 .1 .1 .1 .1 .1 .0)) (now (x .1 .1 .1 .1 .1 .1 .1 .1 .1 .1 .1 .1 .0))) (numbers (now (x .0)) (now (x .1 .0)) (now (x .1 .1 .0)) (now (x .1 .1 .1 .0)) (now (x .1 .1 .1 .1 .0)) (now (x .1 .1 .1 .1 .1 .0))) (now (x .1 .1 .1 .1 .1 .1 .0)) (now (x .1 .1 .1 .1 .1 .1 .1 .1 .0)))
-receive-agrees κs args a b x y p q = (ap (λ h. h .answer .refusal) (agree p q), ap rest (agree p q))
+feo-raw-receive-agrees κs args a b x y p q = (ap (λ h. h .answer .refusal) (agree p q), ap rest (agree p q))
 
-pub event-agrees : AgreesLent 12 event.Kinds.ps event.Kinds.r event.Reads.Post
+pub feo-raw-event-agrees : AgreesLent 12 event.Kinds.ps event.Kinds.r event.Reads.Post
     (λ κs x. handed (told 0 (now (x .1 .1 .1 .1 .1 .1 .1 .1 .1 .0)) (now (x .1 .1 .1 .1 .1 .1 .1 .1 .1 .1 .0)) (now (x .1 .1 .1 .1 .1 .1 .1 .1 .1 .1 .1 .0)) (now (x .1 .1 .1 .1 .1 .1 .1 .1 .1 .1 .1 .1 .0))) (numbers (now (x .0)) (now (x .1 .0)) (now (x .1 .1 .0)) (now (x .1 .1 .1 .0)) (now (x .1 .1 .1 .1 .0)) (now (x .1 .1 .1 .1 .1 .0))) [] (now (x .1 .1 .1 .1 .1 .1 .1 .1 .0)))
-event-agrees κs args a b x y p q = (ap (λ h. h .answer .refusal) (agree p q), ap (λ h. handed (rest h .answer) (h .assoc) [] (h .out)) (agree p q))
+feo-raw-event-agrees κs args a b x y p q = (ap (λ h. h .answer .refusal) (agree p q), ap (λ h. handed (rest h .answer) (h .assoc) [] (h .out)) (agree p q))
 
-pub confirm-agrees : AgreesLent 16 confirm.Kinds.ps confirm.Kinds.r confirm.Reads.Post
+pub feo-raw-confirm-agrees : AgreesLent 16 confirm.Kinds.ps confirm.Kinds.r confirm.Reads.Post
     (λ κs x. handed (told 0 (now (x .1 .1 .1 .1 .1 .1 .1 .1 .1 .1 .1 .1 .0)) (now (x .1 .1 .1 .1 .1 .1 .1 .1 .1 .1 .1 .1 .1 .0)) (now (x .1 .1 .1 .1 .1 .1 .1 .1 .1 .1 .1 .1 .1 .1 .0)) (now (x .1 .1 .1 .1 .1 .1 .1 .1 .1 .1 .1 .1 .1 .1 .1 .0))) (numbers (now (x .0)) (now (x .1 .0)) (now (x .1 .1 .0)) (now (x .1 .1 .1 .0)) (now (x .1 .1 .1 .1 .0)) (now (x .1 .1 .1 .1 .1 .0))) [] (now (x .1 .1 .1 .1 .1 .1 .1 .1 .1 .1 .1 .0)))
-confirm-agrees κs args a b x y p q = (ap (λ h. h .answer .refusal) (agree p q), ap (λ h. handed (rest h .answer) (h .assoc) [] (h .out)) (agree p q))
+feo-raw-confirm-agrees κs args a b x y p q = (ap (λ h. h .answer .refusal) (agree p q), ap (λ h. handed (rest h .answer) (h .assoc) [] (h .out)) (agree p q))
 
-pub accept-agrees : AgreesLent 15 accept.Kinds.ps accept.Kinds.r accept.Reads.Post
+pub feo-raw-accept-agrees : AgreesLent 15 accept.Kinds.ps accept.Kinds.r accept.Reads.Post
     (λ κs x. handed (told 0 (now (x .1 .1 .1 .1 .1 .1 .1 .1 .1 .1 .1 .0)) (now (x .1 .1 .1 .1 .1 .1 .1 .1 .1 .1 .1 .1 .0)) (now (x .1 .1 .1 .1 .1 .1 .1 .1 .1 .1 .1 .1 .1 .0)) (now (x .1 .1 .1 .1 .1 .1 .1 .1 .1 .1 .1 .1 .1 .1 .0))) (numbers (now (x .0)) (now (x .1 .0)) (now (x .1 .1 .0)) (now (x .1 .1 .1 .0)) (now (x .1 .1 .1 .1 .0)) (now (x .1 .1 .1 .1 .1 .0))) [] (now (x .1 .1 .1 .1 .1 .1 .1 .1 .1 .1 .0)))
-accept-agrees κs args a b x y p q = (ap (λ h. h .answer .refusal) (agree p q), ap (λ h. handed (rest h .answer) (h .assoc) [] (h .out)) (agree p q))
+feo-raw-accept-agrees κs args a b x y p q = (ap (λ h. h .answer .refusal) (agree p q), ap (λ h. handed (rest h .answer) (h .assoc) [] (h .out)) (agree p q))
 
-pub reject-agrees : AgreesLent 12 reject.Kinds.ps reject.Kinds.r reject.Reads.Post
+pub feo-raw-reject-agrees : AgreesLent 12 reject.Kinds.ps reject.Kinds.r reject.Reads.Post
     (λ κs x. handed (told 0 (now (x .1 .1 .1 .1 .1 .1 .1 .1 .1 .1 .1 .0)) (now (x .1 .1 .1 .1 .1 .1 .1 .1 .1 .1 .1 .1 .0)) (now (x .1 .1 .1 .1 .1 .1 .1 .1 .1 .1 .1 .1 .1 .0)) (now (x .1 .1 .1 .1 .1 .1 .1 .1 .1 .1 .1 .1 .1 .1 .0))) (numbers (now (x .0)) (now (x .1 .0)) (now (x .1 .1 .0)) (now (x .1 .1 .1 .0)) (now (x .1 .1 .1 .1 .0)) (now (x .1 .1 .1 .1 .1 .0))) [] (now (x .1 .1 .1 .1 .1 .1 .1 .1 .1 .1 .0)))
-reject-agrees κs args a b x y p q = (ap (λ h. h .answer .refusal) (agree p q), ap (λ h. handed (rest h .answer) (h .assoc) [] (h .out)) (agree p q))
+feo-raw-reject-agrees κs args a b x y p q = (ap (λ h. h .answer .refusal) (agree p q), ap (λ h. handed (rest h .answer) (h .assoc) [] (h .out)) (agree p q))
 
-pub send-agrees : AgreesLent 13 send.Kinds.ps send.Kinds.r send.Reads.Post
+pub feo-raw-send-agrees : AgreesLent 13 send.Kinds.ps send.Kinds.r send.Reads.Post
     (λ κs x. handed (told 0 (now (x .1 .1 .1 .1 .1 .1 .1 .1 .1 .0)) (now (x .1 .1 .1 .1 .1 .1 .1 .1 .1 .1 .0)) (now (x .1 .1 .1 .1 .1 .1 .1 .1 .1 .1 .1 .0)) (now (x .1 .1 .1 .1 .1 .1 .1 .1 .1 .1 .1 .1 .0))) (numbers (now (x .0)) (now (x .1 .0)) (now (x .1 .1 .0)) (now (x .1 .1 .1 .0)) (now (x .1 .1 .1 .1 .0)) (now (x .1 .1 .1 .1 .1 .0))) [] (now (x .1 .1 .1 .1 .1 .1 .1 .1 .0)))
-send-agrees κs args a b x y p q = (ap (λ h. h .answer .refusal) (agree p q), ap (λ h. handed (rest h .answer) (h .assoc) [] (h .out)) (agree p q))
+feo-raw-send-agrees κs args a b x y p q = (ap (λ h. h .answer .refusal) (agree p q), ap (λ h. handed (rest h .answer) (h .assoc) [] (h .out)) (agree p q))
 
-pub fresh-agrees : AgreesLent 6 fresh.Kinds.ps fresh.Kinds.r fresh.Reads.Post
+pub feo-raw-fresh-agrees : AgreesLent 6 fresh.Kinds.ps fresh.Kinds.r fresh.Reads.Post
     (λ κs x. numbers (now (x .0)) (now (x .1 .0)) (now (x .1 .1 .0)) (now (x .1 .1 .1 .0)) (now (x .1 .1 .1 .1 .0)) (now (x .1 .1 .1 .1 .1 .0)))
-fresh-agrees κs args a b x y p q = (refl, agree p q)
+feo-raw-fresh-agrees κs args a b x y p q = (refl, agree p q)
 
-pub read-request-agrees : AgreesLent {L = Associate × List ℕ} 7 read-request.Kinds.ps read-request.Kinds.r read-request.Reads.Post
+pub feo-raw-read-request-agrees : AgreesLent {L = Associate × List ℕ} 7 read-request.Kinds.ps read-request.Kinds.r read-request.Reads.Post
     (λ κs x. (associate 0 (now (x .1 .1 .0)) (now (x .1 .1 .1 .0)) (now (x .1 .1 .1 .1 .0)) (now (x .1 .1 .1 .1 .1 .0)) (now (x .1 .1 .1 .1 .1 .1 .0)), now (x .1 .0)))
-read-request-agrees κs args a b x y p q = (ap (λ f. f .refusal) (agree (p .answer) (q .answer)), λ i. (others (agree (p .answer) (q .answer) i), agree (p .sheet) (q .sheet) i))
+feo-raw-read-request-agrees κs args a b x y p q = (ap (λ f. f .refusal) (agree (p .answer) (q .answer)), λ i. (others (agree (p .answer) (q .answer) i), agree (p .sheet) (q .sheet) i))
 
-pub read-accept-agrees : AgreesLent {L = Associate × List ℕ} 7 read-accept.Kinds.ps read-accept.Kinds.r read-accept.Reads.Post
+pub feo-raw-read-accept-agrees : AgreesLent {L = Associate × List ℕ} 7 read-accept.Kinds.ps read-accept.Kinds.r read-accept.Reads.Post
     (λ κs x. (associate 0 (now (x .1 .1 .0)) (now (x .1 .1 .1 .0)) (now (x .1 .1 .1 .1 .0)) (now (x .1 .1 .1 .1 .1 .0)) (now (x .1 .1 .1 .1 .1 .1 .0)), now (x .1 .0)))
-read-accept-agrees κs args a b x y p q = (ap (λ f. f .refusal) (agree (p .answer) (q .answer)), λ i. (others (agree (p .answer) (q .answer) i), agree (p .sheet) (q .sheet) i))
+feo-raw-read-accept-agrees κs args a b x y p q = (ap (λ f. f .refusal) (agree (p .answer) (q .answer)), λ i. (others (agree (p .answer) (q .answer) i), agree (p .sheet) (q .sheet) i))
 
-pub read-reject-agrees : AgreesLent 4 read-reject.Kinds.ps read-reject.Kinds.r read-reject.Reads.Post
+pub feo-raw-read-reject-agrees : AgreesLent 4 read-reject.Kinds.ps read-reject.Kinds.r read-reject.Reads.Post
     (λ κs x. reject 0 (now (x .1 .0)) (now (x .1 .1 .0)) (now (x .1 .1 .1 .0)))
-read-reject-agrees κs args a b x y p q = (ap (λ f. f .refusal) (agree p q), ap (λ f. reject 0 (f .result) (f .source) (f .reason)) (agree p q))
+feo-raw-read-reject-agrees κs args a b x y p q = (ap (λ f. f .refusal) (agree p q), ap (λ f. reject 0 (f .result) (f .source) (f .reason)) (agree p q))
 
-pub read-abort-agrees : AgreesLent 3 read-abort.Kinds.ps read-abort.Kinds.r read-abort.Reads.Post
+pub feo-raw-read-abort-agrees : AgreesLent 3 read-abort.Kinds.ps read-abort.Kinds.r read-abort.Reads.Post
     (λ κs x. abort 0 (now (x .1 .0)) (now (x .1 .1 .0)))
-read-abort-agrees κs args a b x y p q = (ap (λ f. f .refusal) (agree p q), ap (λ f. abort 0 (f .source) (f .reason)) (agree p q))
+feo-raw-read-abort-agrees κs args a b x y p q = (ap (λ f. f .refusal) (agree p q), ap (λ f. abort 0 (f .source) (f .reason)) (agree p q))
 
-pub read-data-agrees : AgreesLent 5 read-data.Kinds.ps read-data.Kinds.r read-data.Reads.Post
+pub feo-raw-read-data-agrees : AgreesLent 5 read-data.Kinds.ps read-data.Kinds.r read-data.Reads.Post
     (λ κs x. pdv 0 (now (x .1 .1 .0)) (now (x .1 .1 .1 .0)) (now (x .1 .1 .1 .1 .0)) (now (x .1 .1 .1 .1 .1 .0)))
-read-data-agrees κs args a b x y p q = (ap (λ f. f .refusal) (agree p q), ap (λ f. pdv 0 (f .id) (f .control) (f .start) (f .len)) (agree p q))
+feo-raw-read-data-agrees κs args a b x y p q = (ap (λ f. f .refusal) (agree p q), ap (λ f. pdv 0 (f .id) (f .control) (f .start) (f .len)) (agree p q))
 
-pub title-known-agrees : AgreesLent 3 title-known.Kinds.ps title-known.Kinds.r title-known.Reads.Post
+pub feo-raw-title-known-agrees : AgreesLent 3 title-known.Kinds.ps title-known.Kinds.r title-known.Reads.Post
     (λ κs x. now (x .1 .1 .0))
-title-known-agrees κs args a b x y p q = (agree (p .refused) (q .refused), agree (p .answer) (q .answer))
+feo-raw-title-known-agrees κs args a b x y p q = (agree (p .refused) (q .refused), agree (p .answer) (q .answer))
