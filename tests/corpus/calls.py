@@ -52,6 +52,12 @@ def receiving(pdu):
     return [f"r {WAITS[pdu[0]]} 0 16390 - 16390 {words(pdu[:half])}", f"r = {words(rest)}"]
 
 
+def request(kind, items):
+    """An RQ or AC with these items behind its fixed fields, whose reserved bytes have any value."""
+    fixed = b"\0\1\xde\xad" + b" STORE-EQUINE   " + b"CART-3          " + bytes(range(100, 132))
+    return bytes([kind, 0xFF]) + (len(fixed) + len(items)).to_bytes(4, "big") + fixed + items
+
+
 def answers(command, lines):
     run = subprocess.run(command, input="".join(line + "\n" for line in lines).encode(), stdout=subprocess.PIPE, check=True)
     return run.stdout.decode().split("\n")[:-1]
@@ -83,13 +89,21 @@ def main():
     for line in open(os.path.join(HERE, "names")):
         good, name, source = line.rstrip("\n").split(" ", 2)
         calls.append((source, f"N {words(name.encode())}", [good]))
+    names = len(calls) - count
+    for line in open(os.path.join(HERE, "items")):
+        good, kind, name, text = line.split()
+        code = {"RQ": 1, "AC": 2}[kind]
+        pdu = request(code, bytes.fromhex(text.replace("-", "")))
+        calls.append((name, f"K {words(pdu)}", [str(code * int(good))]))
+        calls.append((name, f"{' QA'[code]} {words(pdu)} 66000", ["0" if good == "1" else "7"]))
     lines = [call for _, call, _ in calls]
     answered = [answers([second, "answer"], lines), answers(replay, lines)]
     for program, got in zip(["the second program", "replay"], answered):
         if len(got) != len(lines):
             sys.exit(f"{program}: {len(got)} answers to {len(lines)} calls")
-    if not count or len(calls) == count:
-        sys.exit("there is no recorded stream, or no name")
+    items = (len(calls) - count - names) // 2
+    if not count or not names or not items:
+        sys.exit("there is no recorded stream, no name or no list of items")
     for (where, call, expected), theirs, ours in zip(calls, *answered):
         if len(ours.split()) < len(expected or []):
             sys.exit(f"{where}: {call[:200]}\n  answer: {ours}\n  expected {len(expected)} words")
@@ -99,7 +113,7 @@ def main():
             if wanted is not None and got != wanted:
                 sys.exit(f"{where}: {call[:200]}\n  answer: {ours}\n  expected: {' '.join(w or '*' for w in expected)}")
     kinds = ", ".join(f"{n} {kind}" for kind, n in seen.items() if n)
-    print(f"{kinds}; {count} calls on them and {len(calls) - count} names answered alike and as expected")
+    print(f"{kinds}; {count} calls on them, {names} names and {items} lists of items answered alike and as expected")
 
 
 main()
