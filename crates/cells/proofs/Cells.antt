@@ -1,22 +1,22 @@
 -- DEMAND 2: each event that is not refused takes the action and the next state of its cell; at a blank cell a local event is refused and received bytes are
--- dropped. For every record, both buffers, every piece and every local event.
+-- dropped, as they are where the association is deaf. For every record, both buffers, every piece and every local event.
 -- Assumes nothing.
 use Prim.Native.Nat.{ℕ, _+_, _-_, _≤_, _<_}
 use mathlib.Core.Path.{_≡_, refl, sym, ap, _∙_}
-use mathlib.Core.Bool.{Bool, true, false, cond, and-false}
+use mathlib.Core.Bool.{Bool, true, false, cond, and-false, or-true}
 use mathlib.Core.List.{List, [], _++_, append-nil}
 use native.Mathlib.Omega.{arith}
 use lib.Dec.{eqb}
 use lib.ListN.{length, take}
 use lib.Seq.{length-take-le}
-use Rattle.octets.specs.Octets.{be16, be32}
 use Rattle.octets.specs.Put.{put}
 use Rattle.framing.specs.Framing.{Frame, frame, Frame.short, Frame.long, Frame.whole}
 use Rattle.framing.specs.Engine as eng
 use Rattle.framing.proofs.Framing.{Begins, Begins.at-end, begins}
 use Rattle.framing.proofs.Buffers.{inside, before, take-put}
 use Rattle.framing.proofs.Receive.{receive-dropped, receive-long, receive-whole}
-use Rattle.judging.specs.Pdu.{kindOf, acceptable, whole as isWhole}
+use Rattle.judging.specs.Pdu.{kindOf}
+use Rattle.judging.proofs.KindLaws.{acceptable-none}
 use Rattle.table.specs.Names.{AE-6}
 use Rattle.table.specs.Table.{cellOf, isReceived}
 use Rattle.table.specs.Actions.{nextOf}
@@ -65,8 +65,8 @@ after-state act ev a i = entering-state _
 
 -- nothing is accepted where no PDU came
 accepts-none : (act : ℕ) → acceptsAt act [] ≡ false
-unfolding acceptsAt acceptable kindOf isWhole be32 be16
-accepts-none act = and-false (eqb act AE-6)
+unfolding acceptsAt
+accepts-none act = rw acceptable-none (and-false (eqb act AE-6))
 
 module _ (a : Assoc) (g p o : List ℕ) (h : receiveRefusal a g o ≡ 0) (d : dropping a ≡ false) where
   v : Receives a g o
@@ -180,15 +180,24 @@ module _ (a : Assoc) (g o : List ℕ) (e : Local) where
       let z : localCell (numberOf e) (a .state) ≡ 0 = blank-cell (numberOf e) (a .state) c in
       rw (h, z)
 
--- ---- the 247 cells
+-- ---- a deaf association
+deaf-drops : (a : Assoc) → a .deaf ≡ true → dropping a ≡ true
+unfolding dropping
+deaf-drops a d = rw (d, or-true (eqb (a .state) 4)) (or-true (eqb (a .state) 1))
+
+-- ---- the 247 cells, and the deaf association
 pub demand-2 : Demand2 calls
-demand-2 e s e₁ e₂ s₁ s₂ =
+demand-2 =
     record {
-      brought = λ a g p o q h d v c.
-          let w : eventIn a g p ≡ e = v in
-          let c′ : 0 < cellOf (eventIn a g p) (a .state) = rw (v, q) c in
-          rw (← q, ← w) (brought-at a g p o h d c′);
-      dropped = λ a g p o q h r v c. dropped-blank-at a g p o e e₁ e₂ h r (rw q c);
-      given = λ a g o l q h v. rw (← q, ← v) (given-at a g o l h);
-      refused = λ a g o l q h v c. blank-at a g o l h (rw (v, q) c);
+      cells = λ e s e₁ e₂ s₁ s₂.
+          record {
+            brought = λ a g p o q h d v c.
+                let w : eventIn a g p ≡ e = v in
+                let c′ : 0 < cellOf (eventIn a g p) (a .state) = rw (v, q) c in
+                rw (← q, ← w) (brought-at a g p o h d c′);
+            dropped = λ a g p o q h r v c. dropped-blank-at a g p o e e₁ e₂ h r (rw q c);
+            given = λ a g o l q h v. rw (← q, ← v) (given-at a g o l h);
+            refused = λ a g o l q h v c. blank-at a g o l h (rw (v, q) c);
+          };
+      deaf = λ a g p o h d. dropped-at a g p o h (deaf-drops a d);
     }

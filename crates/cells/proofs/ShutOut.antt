@@ -50,18 +50,18 @@ to-2 = refl
 
 module _ (x : Engine) (d : Demand2 x) where
   at-5 : Did (x .local idle [] [] transportIndication) (cellOf 5 1) (nextOf (cellOf 5 1) false (idle .requestor))
-  at-5 = d 5 1 (omega arith) (omega arith) (omega arith) (omega arith) .given idle [] [] transportIndication in-1 indicated refl
+  at-5 = d .cells 5 1 (omega arith) (omega arith) (omega arith) (omega arith) .given idle [] [] transportIndication in-1 indicated refl
 
   at-1 : Did (x .local idle [] [] associateRequest) (cellOf 1 1) (nextOf (cellOf 1 1) false (idle .requestor))
-  at-1 = d 1 1 (omega arith) (omega arith) (omega arith) (omega arith) .given idle [] [] associateRequest in-1 requested refl
+  at-1 = d .cells 1 1 (omega arith) (omega arith) (omega arith) (omega arith) .given idle [] [] associateRequest in-1 requested refl
 
   pub refuses-all : RefusesAll x → ⊥
   refuses-all r = r idle [] [] transportIndication (at-5 .answered)
 
   pub same-action : (action : ℕ) → SameAction x action → ⊥
   same-action action r =
-      let p : action ≡ 5 = sym (r idle [] [] transportIndication) ∙ (at-5 .action ∙ AE-5-there) in
-      let q : action ≡ 1 = sym (r idle [] [] associateRequest) ∙ (at-1 .action ∙ AE-1-there) in
+      let p : action ≡ 5 = sym (r idle [] [] transportIndication (at-5 .answered)) ∙ (at-5 .action ∙ AE-5-there) in
+      let q : action ≡ 1 = sym (r idle [] [] associateRequest (at-1 .answered)) ∙ (at-1 .action ∙ AE-1-there) in
       omega arith
 
   pub record-untouched : RecordUntouched x → ⊥

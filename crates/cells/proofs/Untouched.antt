@@ -25,9 +25,12 @@ use Rattle.association.specs.Deeds.{Input}
 use Rattle.association.specs.Machine.{upper, doing, onEvent, onLocal}
 use Rattle.association.specs.Calls.{Call, call, withCount, lentOf, heard, receiveRefusal, receiveOf, localRefusal, localOf}
 use Rattle.association.proofs.TenLaws.{ten-length}
+use Rattle.cells.specs.Cells.{calls}
+use Rattle.cells.specs.Gather.{GatherOnlyTested}
 use Rattle.cells.proofs.Given.{sends-room}
 use Rattle.cells.proofs.Ready.{Receives, receives-of}
 use Rattle.cells.proofs.Answered.{receive-refused, received, local-refused, local-done, takes-of}
+use Rattle.cells.proofs.Calls.{local-refusal}
 
 -- a call with c bytes gathered before it and u used left the gather buffer g and the output o as this
 pub record Untouched (c u : ℕ) (g o : List ℕ) (x : Call) : Type 0 where
@@ -104,13 +107,25 @@ receive-untouched a g p o = by (eqb (receiveRefusal a g o) 0) refl
     by false e =
         rw (receive-refused a g p o (eqb-false _ _ e)) (untouched-refused (receiveRefusal a g o) (a .gathered) a g o)
 
--- ---- a local event: the gather buffer is as it was, whatever the count
-pub local-gather : (a : Assoc) (g o : List ℕ) (e : Local) → localOf a g o e .gather ≡ g
-local-gather a g o e = by (eqb (localRefusal a g o e) 0) refl
+-- ---- a local event: only its refusals look at the gather buffer
+pub gather-only-tested : GatherOnlyTested calls
+unfolding refusedWith
+gather-only-tested a g h o e q = by (eqb (localRefusal a g o e) 0) refl
   where
-    by : (b : Bool) → eqb (localRefusal a g o e) 0 ≡ b → localOf a g o e .gather ≡ g
-    by true q = rw (local-done a g o e (eqb-true _ _ q))
-    by false q = rw (local-refused a g o e (eqb-false _ _ q))
+    same : localRefusal a g o e ≡ localRefusal a h o e
+    same = sym (local-refusal a g o e) ∙ (q ∙ local-refusal a h o e)
+
+    by : (b : Bool) → eqb (localRefusal a g o e) 0 ≡ b → localOf a h o e ≡ call (localOf a g o e .answer) h (localOf a g o e .out)
+    by true p =
+        let z = eqb-true _ _ p in
+        rw (local-done a g o e z, local-done a h o e (sym same ∙ z))
+    by false p =
+        let z = eqb-false _ _ p in
+        rw (local-refused a g o e z, local-refused a h o e (λ y. z (same ∙ y)), same)
+
+-- and it is as it was, whatever the count
+pub local-gather : (a : Assoc) (g o : List ℕ) (e : Local) → localOf a g o e .gather ≡ g
+local-gather a g o e = ap (λ (c : Call). c .gather) (gather-only-tested a g g o e refl)
 
 pub local-untouched : (a : Assoc) (g o : List ℕ) (e : Local) (c : ℕ) → Untouched c 0 g o (localOf a g o e)
 local-untouched a g o e c = by (eqb (localRefusal a g o e) 0) refl

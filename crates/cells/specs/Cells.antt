@@ -74,6 +74,9 @@ pub record Cell (x : Engine) (event state : ℕ) : Type 0 where
   pub refused : (a : Assoc) (g o : List ℕ) (e : Local) → a .state ≡ state → recordRefusal a g (a .gathered) ≡ 0 → numberOf e ≡ event → cellOf event state ≡ 0
       → x .local a g o e ≡ call (refusedWith 1 a) g o
 
--- DEMAND 2: the 19 events by the 13 states
-abbrev pub Demand2 : Engine → Type 0
-Demand2 x = (event state : ℕ) → 1 ≤ event → event ≤ 19 → 1 ≤ state → state ≤ 13 → Cell x event state
+-- DEMAND 2
+pub record Demand2 (x : Engine) : Type 0 where
+  -- the 19 events by the 13 states
+  pub cells : (event state : ℕ) → 1 ≤ event → event ≤ 19 → 1 ≤ state → state ≤ 13 → Cell x event state
+  -- whatever they bring to a deaf association: "later bytes are used and dropped until Sta1"
+  pub deaf : (a : Assoc) (g p o : List ℕ) → receiveRefusal a g o ≡ 0 → a .deaf ≡ true → x .receive a g p o ≡ dropping a g p o

@@ -10,9 +10,9 @@ use Rattle.cells.specs.Cells.{Engine}
 abbrev pub RefusesAll : Engine → Type 0
 RefusesAll x = (a : Assoc) (g o : List ℕ) (e : Local) → x .local a g o e .answer .told .refusal ≡ 0 → ⊥
 
--- its action is the same at every local event
+-- its action is the same at every local event that it answers
 abbrev pub SameAction : Engine → ℕ → Type 0
-SameAction x action = (a : Assoc) (g o : List ℕ) (e : Local) → x .local a g o e .answer .told .action ≡ action
+SameAction x action = (a : Assoc) (g o : List ℕ) (e : Local) → x .local a g o e .answer .told .refusal ≡ 0 → x .local a g o e .answer .told .action ≡ action
 
 -- it returns the record of every local event as it was
 abbrev pub RecordUntouched : Engine → Type 0

@@ -15,7 +15,8 @@ use Rattle.laws.proofs.Below.{allBelow, below}
 use Rattle.framing.specs.Runs.{Ran}
 use Rattle.framing.specs.Framing.{Brought}
 use Rattle.framing.specs.Framing.{Brought.pdu, Brought.over-length}
-use Rattle.framing.specs.Host.{Entry, One, Item, HostedScript}
+use Rattle.framing.specs.Host as host
+use Rattle.framing.specs.Host.{Entry, One, Item, Calls, HostedScript}
 use Rattle.framing.specs.Reference as ref
 use Rattle.framing.specs.Reference.{Reaction}
 use Rattle.framing.specs.Steps as steps
@@ -31,7 +32,7 @@ use Rattle.association.specs.Events.{Local, eventOf, eventOfKind, invalid, numb
 use Rattle.association.specs.Machine.{Seen, upper, localCell, doing, onEvent, onLocal, requestRefusal}
 use Rattle.cells.proofs.Moves.{beq-eq}
 use Rattle.cells.proofs.Sound.{never}
-use Rattle.demand.specs.Calls.{Lent, fresh, machine, wanted}
+use Rattle.demand.specs.Calls.{Lent, fresh, machine, wanted, Demand3}
 use Rattle.demand.specs.Data.{indicates, indicated, takesData, dataAt, validData, dataIn}
 use Rattle.demand.proofs.Demand.{any-host}
 
@@ -137,19 +138,34 @@ shows-event a over-length h = shows-at _ _ (right-event a over-length ∙ h)
 
 -- ---- the whole run
 
-module _ (is : List (Item One Local)) (g o : List ℕ) (hg : 16390 ≤ length g) (ho : 16390 ≤ length o) {y : Ran (Entry Seen) Lent} (w : HostedScript machine (fresh g o) is y) where
-  same-trace : y .trace ≡ wanted is .trace
-  same-trace = ap (λ (x : Ran (Entry Seen) (ref.Box upper)). x .trace) (any-host is g o hg ho w)
+abbrev shownAt : List (Entry Seen) → List (List ℕ)
+shownAt l = map (λ (x : Entry Seen). x .shown) (those indicated l)
 
-  -- the entries with DT-2 or AR-6 are theirs
-  pub data-entries : those indicated (y .trace) ≡ map (steps.entryAt upper) (dataIn is)
-  data-entries =
-      ap (those indicated) same-trace
-      ∙ exactly upper indicated validData (λ t. right-event (t .met) (t .came)) (λ a e x q. never-by a e x (eqb (requestRefusal a e 16390) 0) q) is (ref.box upper idle [])
+module _ (is : List (Item One Local)) where
+  -- in the reference
+  wanted-entries : those indicated (wanted is .trace) ≡ map (steps.entryAt upper) (dataIn is)
+  wanted-entries =
+      exactly upper indicated validData (λ t. right-event (t .met) (t .came)) (λ a e x q. never-by a e x (eqb (requestRefusal a e 16390) 0) q) is (ref.box upper idle [])
 
-  -- and what is shown there are the PDUs themselves
-  pub data-exactly : map (λ (x : Entry Seen). x .shown) (those indicated (y .trace)) ≡ map (steps.pduAt upper) (dataIn is)
-  data-exactly =
-      ap (λ (l : List (Entry Seen)). map (λ (x : Entry Seen). x .shown) (those indicated l)) same-trace
-      ∙ shown-exactly upper indicated validData (λ t. right-event (t .met) (t .came)) (λ a e x q. never-by a e x (eqb (requestRefusal a e 16390) 0) q)
+  wanted-data : shownAt (wanted is .trace) ≡ map (steps.pduAt upper) (dataIn is)
+  wanted-data =
+      shown-exactly upper indicated validData (λ t. right-event (t .met) (t .came)) (λ a e x q. never-by a e x (eqb (requestRefusal a e 16390) 0) q)
       (λ t h. shows-event (t .met) (t .came) h) is (ref.box upper idle [])
+
+  -- so of any engine that meets demand 3
+  pub data-demanded : (D : Calls One Local (Entry Seen)) (start : D .S) (stands : D .S → ref.Box upper) → Demand3 D start stands
+      → shownAt (host.script D is start .trace) ≡ map (steps.pduAt upper) (dataIn is)
+  data-demanded D start stands d = ap (λ (x : Ran (Entry Seen) (ref.Box upper)). shownAt (x .trace)) (d is) ∙ wanted-data
+
+  -- and of the machine, whatever host gives the script
+  module _ (g o : List ℕ) (hg : 16390 ≤ length g) (ho : 16390 ≤ length o) {y : Ran (Entry Seen) Lent} (w : HostedScript machine (fresh g o) is y) where
+    same-trace : y .trace ≡ wanted is .trace
+    same-trace = ap (λ (x : Ran (Entry Seen) (ref.Box upper)). x .trace) (any-host is g o hg ho w)
+
+    -- the entries with DT-2 or AR-6 are theirs
+    pub data-entries : those indicated (y .trace) ≡ map (steps.entryAt upper) (dataIn is)
+    data-entries = ap (those indicated) same-trace ∙ wanted-entries
+
+    -- and what is shown there are the PDUs themselves
+    pub data-exactly : map (λ (x : Entry Seen). x .shown) (those indicated (y .trace)) ≡ map (steps.pduAt upper) (dataIn is)
+    data-exactly = ap shownAt same-trace ∙ wanted-data

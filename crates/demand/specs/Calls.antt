@@ -1,17 +1,21 @@
--- Demand 3: the calls as a host sees them, refusals included, from a fresh association on.
+-- Demand 3, for any engine, so that it can also be said of one that does not meet it; and demand 2's calls as a host sees them, refusals included, from a fresh
+-- association on.
 use Prim.Native.Nat.{ℕ}
+use mathlib.Core.Path.{_≡_}
 use mathlib.Core.Bool.{cond}
 use mathlib.Core.List.{List, [], _∷_}
 use lib.ListN.{length, take}
 use lib.Dec.{eqb}
 use Rattle.framing.specs.Runs.{Ran}
+use Rattle.framing.specs.Host as host
 use Rattle.framing.specs.Host.{Entry, One, Item, Calls}
 use Rattle.framing.specs.Reference as ref
 use Rattle.association.specs.declared.Assoc.{Assoc}
 use Rattle.association.specs.Record.{idle}
 use Rattle.association.specs.Events.{Local}
 use Rattle.association.specs.Machine.{Seen, upper}
-use Rattle.association.specs.Calls.{Call, withCount, receiveOf, localOf}
+use Rattle.association.specs.Calls.{Call, withCount}
+use Rattle.cells.specs.Cells.{calls}
 
 -- what is lent to each call, and untouched in between: the record, the gather buffer, the output
 pub record Lent : Type 0 where
@@ -43,7 +47,7 @@ pub record Made : Type 0 where
   pub lent : Lent
   pub call : Call
 
--- ---- the calls, of which a host looks at some part
+-- ---- demand 2's calls, of which a host looks at some part
 
 module _ {T : Type 0} (look : Made → List T) where
   abbrev pub looking : Calls One Local T
@@ -51,10 +55,10 @@ module _ {T : Type 0} (look : Made → List T) where
       record {
         S = Lent;
         receive = λ s c p.
-            let x = receiveOf (s .assoc) (s .gather) p (s .out) in
+            let x = calls .receive (s .assoc) (s .gather) p (s .out) in
             record { used = x .answer .told .used; seen = look (record { given = piece p; lent = s; call = x }); next = leaves x };
         onEvent = λ s c e.
-            let x = localOf (s .assoc) (s .gather) (s .out) e in
+            let x = calls .local (s .assoc) (s .gather) (s .out) e in
             record { trace = look (record { given = local e; lent = s; call = x }); end = leaves x };
       }
 
@@ -91,10 +95,20 @@ refusals = looking (λ m. refusalOf (m .call))
 abbrev pub boxOf : Lent → ref.Box upper
 boxOf s = ref.box upper (withCount (s .assoc) 0) (take (s .assoc .gathered) (s .gather))
 
--- what was seen, and the end
-abbrev pub boxed : Ran (Entry Seen) Lent → Ran (Entry Seen) (ref.Box upper)
-boxed x = record { trace = x .trace; end = boxOf (x .end) }
-
 -- what a script is to give: each run framed at once behind the bytes already gathered, its events played by Table 9-10, refused events left out
 abbrev pub wanted : List (Item One Local) → Ran (Entry Seen) (ref.Box upper)
 wanted is = ref.reference upper is (ref.box upper idle [])
+
+-- ---- the demand
+
+-- what was seen, and where it ended
+abbrev pub boxedBy : {S : Type 0} → (S → ref.Box upper) → Ran (Entry Seen) S → Ran (Entry Seen) (ref.Box upper)
+boxedBy stands x = record { trace = x .trace; end = stands (x .end) }
+
+abbrev pub boxed : Ran (Entry Seen) Lent → Ran (Entry Seen) (ref.Box upper)
+boxed x = boxedBy boxOf x
+
+-- DEMAND 3, of any engine: its calls, with whatever state they keep, the state that it starts from, and where it stands in a state. For every script, and so for
+-- every cut of its runs, the trace and the end are those wanted.
+abbrev pub Demand3 : (D : Calls One Local (Entry Seen)) → D .S → (D .S → ref.Box upper) → Type 0
+Demand3 D start stands = (is : List (Item One Local)) → boxedBy stands (host.script D is start) ≡ wanted is

@@ -18,4 +18,5 @@ pub mod Line
 pub mod Stream
 pub mod EndToEnd
 pub mod Instances
+pub mod ShutOut
 pub mod Toy

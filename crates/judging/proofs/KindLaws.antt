@@ -238,4 +238,9 @@ module _ (x : List ℕ) (k : ℕ) (p : k ≡ kindOf x) where
   unfolding maximumOf
   max-other h g = rw (← p, ne-eqb k 1 h, ne-eqb k 2 g)
 
+-- no bytes
+pub acceptable-none : acceptable [] ≡ false
+unfolding acceptable kindOf
+acceptable-none = rw (← whole-short [] (omega arith))
+
 pub ruleset asked-laws = (needs, accept-other, accept-version, max-request-long, max-accept-long, max-request, max-accept, max-other)
