@@ -213,14 +213,15 @@ module _ (x : List ℕ) (n : ℕ) (v : kindOf x ≡ 4) (h : n < length (pdvsOf x
       let m = length-drop (6 + at-n + 6) x in
       ap length fragment-n ∙ length-take-le (end-n - (at-n + 6)) (drop (6 + at-n + 6) x) (omega arith)
 
-  data-n : dataOf x n ≡ record { refusal = 0; id = pdv (pdvsOf x) n .id; control = pdv (pdvsOf x) n .control; start = startOf (pdvsOf x) n; len = length (pdv (pdvsOf x) n .fragment) }
+  -- the answer
+  pub data-in : dataOf x n ≡ record { refusal = 0; id = pdv (pdvsOf x) n .id; control = pdv (pdvsOf x) n .control; start = startOf (pdvsOf x) n; len = length (pdv (pdvsOf x) n .fragment) }
   unfolding dataOf
-  data-n = rw (v, lt-ltb n (length (pdvsOf x)) h)
+  data-in = rw (v, lt-ltb n (length (pdvsOf x)) h)
 
   -- the part that is handed back is the fragment of PDV n
   pub fragment-is : fragmentOf x n ≡ pdv (pdvsOf x) n .fragment
   unfolding fragmentOf startOf pdvsOf
-  fragment-is = rw data-n (rw length-n (sym fragment-n))
+  fragment-is = rw data-in (rw length-n (sym fragment-n))
 
   -- and it lies within the PDU
   pub fragment-within : startOf (pdvsOf x) n + length (pdv (pdvsOf x) n .fragment) ≤ length x
@@ -231,6 +232,11 @@ module _ (x : List ℕ) (n : ℕ) (v : kindOf x ≡ 4) (h : n < length (pdvsOf x
       let m = length-n in
       let s = whole-six x (kind-whole x 4 v (λ z. omega arith)) in
       omega arith
+
+-- a number past the last
+pub data-over : (x : List ℕ) (n : ℕ) → kindOf x ≡ 4 → length (pdvsOf x) ≤ n → dataOf x n ≡ record { refusal = 4; id = 0; control = 0; start = 0; len = 0 }
+unfolding dataOf
+data-over x n v h = rw (v, le-ltb n (length (pdvsOf x)) h)
 
 -- nothing is handed back by a refusal
 pub fragment-refused : (x : List ℕ) (n : ℕ) → dataOf x n .len ≡ 0 → fragmentOf x n ≡ []
