@@ -9,13 +9,14 @@ use lib.ListN.{length, getD, length-append}
 use lib.Dec.{leb}
 use borrow.Author.Needs.{needs}
 use borrow.Author.Tests.{leb-false}
+use Rattle.laws.specs.Lists.{joined}
 use Rattle.octets.specs.Octets.{four}
 use Rattle.names.proofs.NameLaws.{name-short}
 use Rattle.items.specs.Wire.{itemBytes, itemsBytes}
 use Rattle.items.proofs.WireLaws.{item-length}
 use Rattle.sheets.specs.Contexts.{Context}
 use Rattle.sheets.specs.Sheet.{contextsIn}
-use Rattle.writing.specs.Wire.{pduBytes, joined, frameItems, frameBytes, ourUser, contextBody}
+use Rattle.writing.specs.Wire.{pduBytes, frameItems, frameBytes, ourUser, contextBody}
 use Rattle.writing.specs.Form.{Wrote}
 use Rattle.writing.specs.Inner.{Put}
 use Rattle.associate.specs.Inner.{openBytes, contextBytes, capped, base, frameOf, frameForm, itemPart, fixedPart, Fit, Measured}

@@ -5,12 +5,13 @@ use mathlib.Core.Bool.{Bool, true, false, cond}
 use mathlib.Core.List.{List, [], _∷_, _++_, map}
 use lib.ListN.{length, drop, getD}
 use lib.Dec.{leb}
+use Rattle.laws.specs.Lists.{joined}
 use Rattle.octets.specs.Octets.{two, four}
 use Rattle.items.specs.Wire.{itemBytes, itemsBytes}
 use Rattle.sheets.specs.Contexts.{Context}
 use Rattle.sheets.specs.Sheet.{firstTransfers, contextsIn, answersIn}
 use Rattle.sheets.specs.Record.{abstractAt, transferAt}
-use Rattle.writing.specs.Wire.{Frame, joined, frameBytes, ourUser, contextBody, answerBody}
+use Rattle.writing.specs.Wire.{Frame, frameBytes, ourUser, contextBody, answerBody}
 use Rattle.writing.specs.Form.{Form}
 
 -- ---- the items of a sheet's contexts; `answer`: it is an answer, not a proposal

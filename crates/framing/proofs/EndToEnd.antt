@@ -4,9 +4,10 @@ use Prim.Native.Nat.{ℕ}
 use mathlib.Core.Path.{_≡_, refl, sym, ap, _∙_, subst}
 use mathlib.Core.List.{List, [], _∷_, _++_, map}
 use lib.ListN.{length, take}
+use Rattle.laws.specs.Lists.{joined}
 use Rattle.framing.specs.Framing as once
 use Rattle.framing.specs.Framing.{frame, split, Framed, Brought, Frame.whole}
-use Rattle.framing.specs.Host.{Entry, joined}
+use Rattle.framing.specs.Host.{Entry}
 use Rattle.framing.specs.Reference.{Machine}
 use Rattle.framing.specs.Engine as eng
 use Rattle.framing.specs.Steps as steps

@@ -5,9 +5,10 @@ use mathlib.Core.Path.{_≡_, refl, sym, ap, subst}
 use mathlib.Core.List.{List, [], _∷_, _++_, append-assoc}
 use native.Mathlib.Omega.{arith}
 use lib.ListN.{length, drop, length-drop}
+use Rattle.laws.specs.Lists.{joined}
 use Rattle.framing.specs.Runs.{Ran, stop, after, runs}
 use Rattle.framing.specs.Host as host
-use Rattle.framing.specs.Host.{Calls, Item, joined, feedBy, feed, Hosted, HostedScript, Item.event, Item.run}
+use Rattle.framing.specs.Host.{Calls, Item, feedBy, feed, Hosted, HostedScript, Item.event, Item.run}
 use Rattle.framing.proofs.Rounds.{without-fuel}
 
 -- an invariant of an engine, by which each call on a piece that is not empty uses a byte

@@ -6,9 +6,9 @@ use mathlib.Core.List.{List, [], _∷_, _++_, map}
 use native.Mathlib.Omega.{arith}
 use lib.ListN.{length, take, drop, length-drop}
 use lib.Seq.{take-append-le, drop-append-le, take-length, drop-length}
+use Rattle.laws.specs.Lists.{joined}
 use Rattle.framing.specs.Framing as once
 use Rattle.framing.specs.Framing.{Frame, frame, Framed, noEvent, first, splitBy, split, Frame.short, Frame.long, Frame.whole}
-use Rattle.framing.specs.Host.{joined}
 use Rattle.framing.proofs.Rounds.{without-fuel}
 use Rattle.framing.proofs.Framing.{Begins, Begins.at-six, Begins.at-end, begins, frame-nil}
 

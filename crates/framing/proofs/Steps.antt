@@ -4,9 +4,10 @@ use mathlib.Core.Path.{_≡_, refl, sym, ap, _∙_}
 use mathlib.Core.Bool.{Bool, true, false, cond}
 use mathlib.Core.Option.{Option, none, some}
 use mathlib.Core.List.{List, [], _∷_, _++_, map, append-assoc, map-append}
+use Rattle.laws.specs.Lists.{joined}
 use Rattle.framing.specs.Runs.{Ran, runs, givens}
 use Rattle.framing.specs.Framing.{Brought, split}
-use Rattle.framing.specs.Host.{Entry, One, Item, joined, Item.event, Item.run}
+use Rattle.framing.specs.Host.{Entry, One, Item, Item.event, Item.run}
 use Rattle.framing.specs.Reference as ref
 use Rattle.framing.specs.Reference.{Machine, Reaction}
 use Rattle.framing.specs.Steps as steps

@@ -6,10 +6,11 @@ use mathlib.Core.Bool.{Bool, true, false, cond}
 use mathlib.Core.Option.{Option, none, some}
 use mathlib.Core.List.{List, [], _∷_, _++_, map, append-assoc, append-nil, map-append}
 use native.Mathlib.Omega.{arith}
+use Rattle.laws.specs.Lists.{joined}
 use Rattle.framing.specs.Runs.{Ran, runs, givens}
 use Rattle.framing.specs.Framing.{Framed, Brought, split}
 use Rattle.framing.specs.Host as host
-use Rattle.framing.specs.Host.{One, Item, joined, Item.event, Item.run}
+use Rattle.framing.specs.Host.{One, Item, Item.event, Item.run}
 use Rattle.framing.specs.Reference as ref
 use Rattle.framing.specs.Reference.{Machine, Reaction}
 use Rattle.framing.specs.Steps as steps

@@ -2,6 +2,7 @@
 use Prim.Native.Nat.{ℕ}
 use mathlib.Core.List.{List, [], _∷_, _++_}
 use lib.ListN.{drop}
+use Rattle.laws.specs.Lists.{joined}
 use Rattle.framing.specs.Runs.{Ran, stop, after, runs}
 use Rattle.framing.specs.Rounds.{byLength}
 
@@ -23,10 +24,6 @@ pub data One : Type 0 where
 pub data Item (C E : Type 0) : Type 0 where
   event : C → E → Item C E
   run : C → List (List ℕ) → Item C E
-
-abbrev pub joined : List (List ℕ) → List ℕ
-joined [] = []
-joined (p ∷ ps) = p ++ joined ps
 
 -- ---- an engine, as a host calls it
 

@@ -3,8 +3,9 @@ use Prim.Native.Nat.{ℕ}
 use mathlib.Core.Bool.{Bool, true, false, cond}
 use mathlib.Core.List.{List, [], _∷_, _++_, map}
 use lib.ListN.{take, drop}
+use Rattle.laws.specs.Lists.{joined}
 use Rattle.framing.specs.Runs.{Ran, runs, givens}
-use Rattle.framing.specs.Host.{Calls, One, One.one, Item, Item.event, Item.run, joined, item}
+use Rattle.framing.specs.Host.{Calls, One, One.one, Item, Item.event, Item.run, item}
 use Rattle.framing.specs.Slots.{At, at}
 
 pub data Side : Type 0 where

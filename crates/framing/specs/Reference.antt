@@ -4,10 +4,11 @@ use Prim.Native.Nat.{ℕ}
 use mathlib.Core.Bool.{Bool, true, false, cond}
 use mathlib.Core.Option.{Option, none, some}
 use mathlib.Core.List.{List, [], _∷_, _++_}
+use Rattle.laws.specs.Lists.{joined}
 use Rattle.framing.specs.Runs.{Ran, stop, runs}
 use Rattle.framing.specs.Framing.{Brought, split}
 use Rattle.framing.specs.Framing.{Brought.pdu, Brought.over-length}
-use Rattle.framing.specs.Host.{Entry, One, Item, joined, Item.event, Item.run}
+use Rattle.framing.specs.Host.{Entry, One, Item, Item.event, Item.run}
 
 -- ---- the machine: what an association does at an event, without buffers, counts and cuts
 

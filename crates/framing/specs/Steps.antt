@@ -2,9 +2,10 @@
 use Prim.Native.Nat.{ℕ}
 use mathlib.Core.Bool.{Bool, cond}
 use mathlib.Core.List.{List, [], _∷_, _++_}
+use Rattle.laws.specs.Lists.{joined}
 use Rattle.framing.specs.Runs.{givens}
 use Rattle.framing.specs.Framing.{Brought, split}
-use Rattle.framing.specs.Host.{Entry, One, Item, joined, Item.event, Item.run}
+use Rattle.framing.specs.Host.{Entry, One, Item, Item.event, Item.run}
 use Rattle.framing.specs.Reference as ref
 use Rattle.framing.specs.Reference.{Machine}
 

@@ -1,6 +1,6 @@
--- Tests on lists that the rules of document 01 are written with.
+-- Definitions on lists that the rules of document 01 are written with: tests, and lists cut and joined.
 use mathlib.Core.Bool.{Bool, true, false, not, _&&_, _||_}
-use mathlib.Core.List.{List, [], _∷_}
+use mathlib.Core.List.{List, [], _∷_, _++_}
 use Prim.Native.Nat.{ℕ, zero, suc}
 use lib.Dec.{eqb}
 use lib.ListN.{take, drop}
@@ -20,6 +20,11 @@ module _ {A : Type 0} where
   abbrev pub empty : List A → Bool
   empty [] = true
   empty (x ∷ xs) = false
+
+  -- one behind the other
+  abbrev pub joined : List (List A) → List A
+  joined [] = []
+  joined (x ∷ xs) = x ++ joined xs
 
   -- the first n records of k elements each
   abbrev pub records : ℕ → ℕ → List A → List (List A)

@@ -70,6 +70,14 @@ pub put-front : (o bs : List ℕ) → put o 0 bs ≡ front o bs
 unfolding put front
 put-front o bs = rw (zero-add (length bs))
 
+pub front-start : (o bs : List ℕ) → take (length bs) (front o bs) ≡ bs
+unfolding front
+front-start o bs = take-at bs (drop (length bs) o) (length bs) refl
+
+pub front-behind : (o bs : List ℕ) → drop (length bs) (front o bs) ≡ drop (length bs) o
+unfolding front
+front-behind o bs = drop-at bs (drop (length bs) o) (length bs) refl
+
 -- ---- the copying loop: i bytes of t are in
 pub copied : List ℕ → ℕ → List ℕ → ℕ → List ℕ
 copied o at t i = paste o at t i

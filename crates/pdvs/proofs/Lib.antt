@@ -1,2 +1,3 @@
 pub mod DataLaws
 pub mod Agree
+pub mod Back

@@ -2,11 +2,11 @@
 -- tested), fragment, perhaps empty."
 use Prim.Native.Nat.{ℕ, zero, suc, _+_, _-_}
 use mathlib.Core.Bool.{Bool, true, false, _&&_, cond}
-use mathlib.Core.List.{List, [], _∷_}
+use mathlib.Core.List.{List, [], _∷_, _++_}
 use lib.ListN.{length, take, drop, getD}
 use lib.Dec.{leb, eqb}
 use Rattle.laws.specs.Lists.{all}
-use Rattle.octets.specs.Octets.{be32, odd}
+use Rattle.octets.specs.Octets.{be32, four, odd}
 
 pub record Pdv : Type 0 where
   pub id : ℕ
@@ -28,6 +28,14 @@ pdvsIn (suc n) s = pdvStep (pdvsIn n) s
 -- the PDV items that stand at the start of a body, one behind the other: `pdvs s ≡ pdvStep pdvs s` (DataLaws.pdvs-step)
 unfoldable pub pdvs : List ℕ → List Pdv
 pdvs s = pdvsIn (length s) s
+
+-- and back: a PDV as its item, the four-byte length, which counts ID, control byte and fragment, then these
+unfoldable pub pdvBytes : Pdv → List ℕ
+pdvBytes p = four (2 + length (p .fragment)) ++ (p .id ∷ p .control ∷ p .fragment)
+
+-- a PDV with a length that four bytes can hold
+abbrev pub pdvFits : Pdv → Bool
+pdvFits p = leb (2 + length (p .fragment)) 0xFFFFFFFF
 
 -- the bytes that PDV items take: four for the length, two for ID and control byte, and the fragment
 abbrev pub size : List Pdv → ℕ

@@ -19,6 +19,7 @@ use Rattle.sheets.specs.Contexts.{answeredId, answeredOk, allAnsweredOk}
 use Rattle.sheets.specs.Sheet.{answersIn, answerSheetOf, answersOk}
 use Rattle.sheets.proofs.Inverse.{answers-answered, answer-sheet-back}
 use Rattle.reading.specs.Associate.{answerOf, answered, applicationOf, applicationAt, sheetIn, fieldsOf}
+use Rattle.reading.proofs.Meaning.{application-stands}
 use Rattle.writing.specs.Fields.{AcFields, acGood}
 use Rattle.writing.specs.Wire.{frameBytes, answerBody, acFrame}
 use Rattle.writing.specs.Form.{acForm}
@@ -84,6 +85,9 @@ module _ (f : AcFields) (g : acGood f ≡ true) (limit : length (acForm f .pdu) 
   unfolding applicationAt
   place-at = ap (λ (n : ℕ). 74 + n) (at-place (acFrame f) fits)
 
+  stands-at : take (length (f .application)) (drop 78 (frameBytes (acFrame f))) ≡ f .application
+  stands-at = rw (application-at, place-at) at (application-stands (frameBytes (acFrame f)))
+
   maximum-at : maximumOf (frameBytes (acFrame f)) ≡ 16384
   unfolding acFrame
   maximum-at = maximum-2 (frameBytes (acFrame f)) valid ∙ at-maximum (acFrame f) fits refl
@@ -118,6 +122,7 @@ module _ (f : AcFields) (g : acGood f ≡ true) (limit : length (acForm f .pdu) 
         kind = valid;
         echoed = echoed-at;
         application = application-at;
+        stands = stands-at;
         answers = answers-at;
         read = λ room h. read-is 2 (frameBytes (acFrame f)) is-2 room (roomy room h) ∙ fields-at;
         sheet = λ room h. filled-is 2 (frameBytes (acFrame f)) is-2 room (roomy room h) ∙ sheet-at;

@@ -9,7 +9,7 @@ use lib.ListN.{length, take, drop, getD, replicate, length-append, length-drop, 
 use lib.Seq.{length-take-le}
 use lib.Dec.{leb, eqb}
 use borrow.Author.Tests.{le-leb, eq-eqb, leb-true, eqb-true}
-use Rattle.laws.specs.Lists.{all, distinct}
+use Rattle.laws.specs.Lists.{all, distinct, joined}
 use Rattle.laws.proofs.Booleans.{left-of, right-of, both-of}
 use Rattle.names.specs.Name.{nameOk}
 use Rattle.titles.specs.Title.{titleOk}
@@ -27,7 +27,7 @@ use Rattle.sheets.specs.Sheet.{contextsIn, answersIn}
 use Rattle.sheets.proofs.Inverse.{contexts-back, contexts-proposal, answered-back, answered-answers}
 use Rattle.reading.specs.Associate.{contextOf, answerOf, proposed, answered, applicationOf, sheetIn}
 use Rattle.writing.specs.Fields.{rqGood, acGood}
-use Rattle.writing.specs.Wire.{Frame, joined, frameItems, frameBytes, pduBytes, ourUser, contextBody, answerBody, rqFrame, acFrame}
+use Rattle.writing.specs.Wire.{Frame, frameItems, frameBytes, pduBytes, ourUser, contextBody, answerBody, rqFrame, acFrame}
 use Rattle.writing.specs.Form.{refusalOf, sentBytes, rqForm, acForm}
 use Rattle.trips.specs.Trips.{RqTrip, AcTrip, rqRead, acRead}
 use Rattle.trips.proofs.MetTrip.{first-good, some-30, some-40, some-10, some-context, some-50}

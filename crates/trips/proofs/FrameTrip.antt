@@ -9,7 +9,7 @@ use lib.ListN.{length, take, drop, length-append}
 use lib.Seq.{take-at, drop-at}
 use lib.Dec.{leb, eqb}
 use borrow.Author.Tests.{le-leb, eq-eqb}
-use Rattle.laws.specs.Lists.{all, distinct}
+use Rattle.laws.specs.Lists.{all, distinct, joined}
 use Rattle.laws.proofs.Booleans.{left-of, right-of, both-of, held}
 use Rattle.octets.specs.Octets.{be16, be32}
 use Rattle.names.specs.Name.{nameOk}
@@ -18,7 +18,7 @@ use Rattle.items.specs.Wire.{itemBytes, itemsBytes}
 use Rattle.items.proofs.WireLaws.{item-length, walk-item, walk-last, run, walk-items, bodies-run, bodies-past, keeps-run}
 use Rattle.contents.specs.Contents.{one, good50H, contextGood, topGood, topNext, topRule, bodyId, ids, itemsOk, maximumIn}
 use Rattle.judging.specs.Pdu.{typeOf, pduLength, versionOf, topItems, whole}
-use Rattle.writing.specs.Wire.{pduBytes, Frame, joined, frameItems, frameBytes, ourUser}
+use Rattle.writing.specs.Wire.{pduBytes, Frame, frameItems, frameBytes, ourUser}
 
 -- ---- a PDU with its PDU-length: at most 16,384, it is whole
 module _ (kind : ℕ) (body : List ℕ) where

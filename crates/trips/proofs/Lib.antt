@@ -8,3 +8,4 @@ pub mod SentTrip
 pub mod MetTrip
 pub mod Share
 pub mod Again
+pub mod CallTrip

@@ -21,6 +21,7 @@ use Rattle.sheets.specs.Contexts.{contextId, contextOk, contextsOk}
 use Rattle.sheets.specs.Sheet.{contextsIn, sheetOf, proposalOk}
 use Rattle.sheets.proofs.Inverse.{proposal-contexts, proposal-back}
 use Rattle.reading.specs.Associate.{contextOf, proposed, applicationOf, applicationAt, sheetIn, fieldsOf}
+use Rattle.reading.proofs.Meaning.{application-stands}
 use Rattle.writing.specs.Fields.{RqFields, rqGood}
 use Rattle.writing.specs.Wire.{frameItems, frameBytes, pduBytes, contextBody, rqFrame}
 use Rattle.writing.specs.Form.{rqForm}
@@ -127,6 +128,9 @@ module _ (f : RqFields) (g : rqGood f ≡ true) (limit : length (rqForm f .pdu) 
   unfolding applicationAt
   place-at = ap (λ (n : ℕ). 74 + n) (at-place (rqFrame f) fits)
 
+  stands-at : take (length (f .application)) (drop 78 (frameBytes (rqFrame f))) ≡ f .application
+  stands-at = rw (application-at, place-at) at (application-stands (frameBytes (rqFrame f)))
+
   maximum-at : maximumOf (frameBytes (rqFrame f)) ≡ 16384
   unfolding rqFrame
   maximum-at = maximum-1 (frameBytes (rqFrame f)) valid ∙ at-maximum (rqFrame f) fits refl
@@ -159,6 +163,7 @@ module _ (f : RqFields) (g : rqGood f ≡ true) (limit : length (rqForm f .pdu) 
         called = called-at;
         calling = calling-at;
         application = application-at;
+        stands = stands-at;
         contexts = contexts-at;
         read = λ room h. read-is 1 (frameBytes (rqFrame f)) is-1 room (roomy room h) ∙ fields-at;
         sheet = λ room h. filled-is 1 (frameBytes (rqFrame f)) is-1 room (roomy room h) ∙ sheet-at;

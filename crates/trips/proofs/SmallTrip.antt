@@ -17,6 +17,7 @@ use Rattle.judging.specs.Pdu.{whole, rejectPduOk, dataOk, releaseOk, abortPduOk
 use Rattle.judging.proofs.KindLaws.{kind-of-valid}
 use Rattle.reading.specs.Values.{rejectOf, abortOf}
 use Rattle.reading.specs.Data.{pdvsOf}
+use Rattle.reading.proofs.DataLaws.{data-in, data-over, fragment-is}
 use Rattle.writing.specs.Fields.{Reject, Items, Abort, rejectGood, itemsGood, abortGood}
 use Rattle.writing.specs.Ten.{tens, tenOf, rejectBytes, abortBytes}
 use Rattle.writing.specs.Wire.{pduBytes}
@@ -99,4 +100,11 @@ unfolding dataForm itemsGood validAs dataOk pduBytes pdvsOf
 data-trip peer f g h =
     let m = most-low peer in
     let l = pdu-long 0x04 (f .items) in
-    record { kind = kind-of-valid (pduBytes 0x04 (f .items)) 4 (pdu-whole 0x04 (f .items) (omega arith)) refl (received (f .items) g); body = refl; read = refl }
+    let k = kind-of-valid (pduBytes 0x04 (f .items)) 4 (pdu-whole 0x04 (f .items) (omega arith)) refl (received (f .items) g) in
+    record {
+      kind = k;
+      body = refl;
+      read = λ n i. data-in (pduBytes 0x04 (f .items)) n k i;
+      fragment = λ n i. fragment-is (pduBytes 0x04 (f .items)) n k i;
+      past = λ n i. data-over (pduBytes 0x04 (f .items)) n k i;
+    }

@@ -7,12 +7,11 @@ use mathlib.Core.Bool.{Bool, true, false, cond}
 use mathlib.Core.List.{List, []}
 use mathlib.Core.Path.{_≡_, refl, sym, ap, _∙_}
 use lib.ListN.{length, take, drop}
-use lib.Seq.{take-at, drop-at}
 use lib.Dec.{leb, eqb}
 use borrow.Author.Tests.{le-leb, lt-leb, ne-eqb, leb-true}
 use Rattle.laws.proofs.Agree.{agree}
 use Rattle.octets.specs.Put.{front}
-use Rattle.octets.proofs.PutLaws.{put-front}
+use Rattle.octets.proofs.PutLaws.{put-front, front-start, front-behind}
 use Rattle.writing.specs.Form.{Form, refusalOf, sentBytes, sentOf, Wrote}
 use Rattle.writing.specs.Inner.{Put}
 use Rattle.writing.specs.declared.Sent.{Sent}
@@ -97,12 +96,10 @@ module _ (f : Form) (o : List ℕ) where
       out-is = w .out ∙ ap (front o) (fine .sent)
 
       pub sent-bytes : take (length (f .pdu)) o′ ≡ f .pdu
-      unfolding front
-      sent-bytes = ap (take (length (f .pdu))) out-is ∙ take-at (f .pdu) (drop (length (f .pdu)) o) (length (f .pdu)) refl
+      sent-bytes = ap (take (length (f .pdu))) out-is ∙ front-start o (f .pdu)
 
       pub nothing-beyond : drop (length (f .pdu)) o′ ≡ drop (length (f .pdu)) o
-      unfolding front
-      nothing-beyond = ap (drop (length (f .pdu))) out-is ∙ drop-at (f .pdu) (drop (length (f .pdu)) o) (length (f .pdu)) refl
+      nothing-beyond = ap (drop (length (f .pdu))) out-is ∙ front-behind o (f .pdu)
 
       pub sent-limit : length (f .pdu) - 6 ≤ f .most
       sent-limit = fine .limit

@@ -8,7 +8,7 @@ use mathlib.Core.Path.{_≡_, refl, sym, ap, _∙_}
 use lib.ListN.{length, replicate, length-append}
 use borrow.Author.Tests.{lt-leb}
 use lib.Dec.{leb}
-use Rattle.laws.specs.Lists.{all, distinct}
+use Rattle.laws.specs.Lists.{all, distinct, joined}
 use Rattle.laws.proofs.Booleans.{left-of, right-of}
 use Rattle.names.specs.Name.{nameOk}
 use Rattle.titles.specs.Title.{titleOk}
@@ -21,7 +21,7 @@ use Rattle.sheets.specs.Sheet.{recordBytes, contextRecords, sheetOf, contextsIn
 use Rattle.sheets.proofs.RecordLaws.{record-length}
 use Rattle.sheets.proofs.Inverse.{proposal-contexts, proposal-back}
 use Rattle.writing.specs.Fields.{RqFields, rqGood}
-use Rattle.writing.specs.Wire.{joined, frameItems, frameBytes, pduBytes, contextBody, rqFrame}
+use Rattle.writing.specs.Wire.{frameItems, frameBytes, pduBytes, contextBody, rqFrame}
 use Rattle.writing.specs.Form.{rqForm, refusalOf}
 
 -- the transfer names of contexts, one a record

@@ -3,6 +3,7 @@
 use Prim.Native.Nat.{ℕ}
 use mathlib.Core.List.{List, [], _∷_, _++_, map}
 use lib.ListN.{length, replicate}
+use Rattle.laws.specs.Lists.{joined}
 use Rattle.octets.specs.Octets.{four}
 use Rattle.items.specs.Wire.{itemBytes, itemsBytes}
 use Rattle.sheets.specs.Contexts.{Context, Answered}
@@ -21,11 +22,6 @@ pub record Frame : Type 0 where
   pub context : ℕ
   pub bodies : List (List ℕ)
   pub user : List (List ℕ)
-
--- one behind the other
-abbrev pub joined : List (List ℕ) → List ℕ
-joined [] = []
-joined (x ∷ xs) = x ++ joined xs
 
 -- one 10H, the contexts, one 50H
 unfoldable pub frameItems : Frame → List ℕ
