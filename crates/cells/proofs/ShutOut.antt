@@ -56,15 +56,15 @@ module _ (x : Engine) (d : Demand2 x) where
   at-1 = d .cells 1 1 (omega arith) (omega arith) (omega arith) (omega arith) .given idle [] [] associateRequest in-1 requested refl
 
   pub refuses-all : RefusesAll x → ⊥
-  refuses-all r = r idle [] [] transportIndication (at-5 .answered)
+  refuses-all r = r idle [] [] transportIndication indicated (at-5 .answered)
 
   pub same-action : (action : ℕ) → SameAction x action → ⊥
   same-action action r =
-      let p : action ≡ 5 = sym (r idle [] [] transportIndication (at-5 .answered)) ∙ (at-5 .action ∙ AE-5-there) in
-      let q : action ≡ 1 = sym (r idle [] [] associateRequest (at-1 .answered)) ∙ (at-1 .action ∙ AE-1-there) in
+      let p : action ≡ 5 = sym (r idle [] [] transportIndication indicated) ∙ (at-5 .action ∙ AE-5-there) in
+      let q : action ≡ 1 = sym (r idle [] [] associateRequest requested) ∙ (at-1 .action ∙ AE-1-there) in
       omega arith
 
   pub record-untouched : RecordUntouched x → ⊥
   record-untouched r =
-      let p : 2 ≡ idle .state = sym (at-5 .state ∙ to-2) ∙ ap (λ (a : Assoc). a .state) (r idle [] [] transportIndication) in
+      let p : 2 ≡ idle .state = sym (at-5 .state ∙ to-2) ∙ ap (λ (a : Assoc). a .state) (r idle [] [] transportIndication indicated) in
       omega (arith, in-1)
