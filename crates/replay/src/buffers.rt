@@ -2,17 +2,17 @@
 ghost use Prim.Native.Nat.{_<_};
 
 // Room for the longest line that is a call, and two bytes behind it.
-pub fn line() -> [u8; 270002] {
+pub(crate) fn line() -> [u8; 270002] {
     [0; 270002]
 }
 
 // Room for a gather buffer or an output, of bytes b.
-pub fn buffer(b: u8) -> [u8; 17000] {
+pub(crate) fn buffer(b: u8) -> [u8; 17000] {
     [b; 17000]
 }
 
 // Room for a sheet, of bytes C3H.
-pub fn sheet() -> [u8; 66000] {
+pub(crate) fn sheet() -> [u8; 66000] {
     [0xC3; 66000]
 }
 
@@ -22,7 +22,7 @@ fn byte_or(bytes: &[u8], i: usize, b: u8) -> u8 {
 }
 
 // Sets a buffer to the bytes given, and what is left of it to b.
-pub fn fill(buffer: &mut [u8], bytes: &[u8], b: u8) {
+pub(crate) fn fill(buffer: &mut [u8], bytes: &[u8], b: u8) {
     let mut i = 0;
     while i < buffer.len() {
         buffer[i] = byte_or(bytes, i, b);
@@ -31,7 +31,7 @@ pub fn fill(buffer: &mut [u8], bytes: &[u8], b: u8) {
 }
 
 // The first n bytes of a buffer; all of it where it has fewer.
-pub fn front(buffer: &mut [u8], n: usize) -> &mut [u8] {
+pub(crate) fn front(buffer: &mut [u8], n: usize) -> &mut [u8] {
     if n <= buffer.len() {
         return &mut buffer[..n];
     }
@@ -47,7 +47,7 @@ fn mixed(h: u64, b: u8) -> u64
 }
 
 // The digest of the first n bytes of a buffer.
-pub fn digest(buffer: &[u8], n: usize) -> u64 {
+pub(crate) fn digest(buffer: &[u8], n: usize) -> u64 {
     let mut h: u64 = 1;
     let mut i = 0;
     while i < buffer.len() {

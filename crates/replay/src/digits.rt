@@ -2,9 +2,9 @@
 ghost use Prim.Native.Nat.{_≤_, _<_};
 
 // One word: its number, and where it ends; 0 where it is not of its kind.
-pub struct Word {
-    pub number: u64,
-    pub next: usize,
+pub(crate) struct Word {
+    pub(crate) number: u64,
+    pub(crate) next: usize,
 }
 
 // The value of a hex digit, or 16.
@@ -23,7 +23,7 @@ fn digit(b: u8) -> u64
 }
 
 // The number that starts at a place, up to what would make it more than `most`.
-pub fn number_at(line: &[u8; 270002], at: usize, most: u64) -> Word {
+pub(crate) fn number_at(line: &[u8; 270002], at: usize, most: u64) -> Word {
     let mut number = 0;
     let mut i = at;
     while i < 270002 {
@@ -59,7 +59,7 @@ fn pair(line: &[u8; 270002], i: usize) -> u64
 }
 
 // The byte string that starts at a place, of up to `most` bytes, which then stand there.
-pub fn string_at(line: &mut [u8; 270002], at: usize, most: u64) -> Word
+pub(crate) fn string_at(line: &mut [u8; 270002], at: usize, most: u64) -> Word
     requires { ⌜ at < 270002 ⌝ }
 {
     if line[at] == b'-' {

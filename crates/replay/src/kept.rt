@@ -3,14 +3,14 @@ use crate::words::byte;
 use crate::words::number;
 use association::Assoc;
 
-pub struct Kept {
-    pub assoc: Assoc,
-    pub gather: usize,
-    pub out: usize,
+pub(crate) struct Kept {
+    pub(crate) assoc: Assoc,
+    pub(crate) gather: usize,
+    pub(crate) out: usize,
 }
 
 // What is kept at the start: a fresh association, and room for any PDU.
-pub fn first() -> Kept {
+pub(crate) fn first() -> Kept {
     Kept {
         assoc: association::fresh(),
         gather: 16390,
@@ -23,7 +23,7 @@ fn word32(n: u64) -> u32 {
 }
 
 // What a RECORD says to keep.
-pub fn said(words: &[u64; 14], kept: Kept) -> Kept {
+pub(crate) fn said(words: &[u64; 14], kept: Kept) -> Kept {
     if number(words, 7) == 0 {
         kept
     } else {

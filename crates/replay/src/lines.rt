@@ -3,14 +3,14 @@ use libc::STDIN_FILENO;
 
 // How far a line is taken: its length so far, usize::MAX for one that is too long; what is left of the bytes read, from `at` to `end`.
 // At the end of the input `end` is 0.
-pub struct Taken {
-    pub len: usize,
-    pub at: usize,
-    pub end: usize,
+pub(crate) struct Taken {
+    pub(crate) len: usize,
+    pub(crate) at: usize,
+    pub(crate) end: usize,
 }
 
 // Whether no line is left.
-pub fn is_end(t: Taken) -> bool {
+pub(crate) fn is_end(t: Taken) -> bool {
     if t.end == 0 { t.len == 0 } else { false }
 }
 
@@ -39,7 +39,7 @@ fn filled(read: &mut [u8; 65536], t: Taken) -> Taken {
 }
 
 // The next line, without its newline. At the end of the input it is what is left, which may be nothing.
-pub fn next_line(line: &mut [u8; 270002], read: &mut [u8; 65536], last: Taken) -> Taken {
+pub(crate) fn next_line(line: &mut [u8; 270002], read: &mut [u8; 65536], last: Taken) -> Taken {
     let mut t = Taken {
         len: 0,
         at: last.at,

@@ -85,7 +85,7 @@ fn tell(r: Answer, k: Kept, gather: &[u8], out: &[u8]) {
 }
 
 // Prints the answer to a line, and says what is then kept: what a machine call leaves, and as before for any other line.
-pub fn answered(
+pub(crate) fn answered(
     call: u8,
     line: &[u8; 270002],
     words: &[u64; 14],

@@ -11,7 +11,7 @@ use crate::words::bytes;
 use crate::words::number;
 use crate::writers::write;
 
-pub fn plain_call(call: u8, line: &[u8], words: &[u64; 14]) {
+pub(crate) fn plain_call(call: u8, line: &[u8], words: &[u64; 14]) {
     let first = bytes(line, words, 9);
     let second = bytes(line, words, 10);
     let n = number(words, 10) as usize;
@@ -22,7 +22,7 @@ pub fn plain_call(call: u8, line: &[u8], words: &[u64; 14]) {
         b'A' => associate(call, first, n),
         b'J' => reject(reading::read_reject(first)),
         b'B' => abort(reading::read_abort(first)),
-        b'D' => data(reading::read_data(first, n)),
+        b'D' => data(first, n),
         b'T' => title(titles::title_known(first, second)),
         b'N' => whether(names::name_ok(first)),
         b'V' => whether(titles::title_ok(first)),

@@ -3,14 +3,14 @@ use crate::buffers::digest;
 use crate::buffers::front;
 use crate::buffers::sheet;
 use crate::print::mark;
+use crate::print::print_with;
 use crate::print::seven;
 use reading::AbortRead;
 use reading::Associate;
-use reading::DataRead;
 use reading::RejectRead;
 use titles::Known;
 
-pub fn kind(pdu: &[u8]) {
+pub(crate) fn kind(pdu: &[u8]) {
     seven(
         3,
         judging::kind_of(pdu) as u64,
@@ -32,7 +32,7 @@ fn fields(call: u8, pdu: &[u8], sheet: &mut [u8]) -> Associate {
 }
 
 // An RQ or an AC, into a sheet.
-pub fn associate(call: u8, pdu: &[u8], room: usize) {
+pub(crate) fn associate(call: u8, pdu: &[u8], room: usize) {
     let mut lent = sheet();
     let f = fields(call, pdu, front(&mut lent, room));
     seven(
@@ -47,7 +47,7 @@ pub fn associate(call: u8, pdu: &[u8], room: usize) {
     );
 }
 
-pub fn reject(f: RejectRead) {
+pub(crate) fn reject(f: RejectRead) {
     seven(
         4,
         f.refusal as u64,
@@ -60,7 +60,7 @@ pub fn reject(f: RejectRead) {
     );
 }
 
-pub fn abort(f: AbortRead) {
+pub(crate) fn abort(f: AbortRead) {
     seven(
         3,
         f.refusal as u64,
@@ -73,20 +73,20 @@ pub fn abort(f: AbortRead) {
     );
 }
 
-pub fn data(f: DataRead) {
-    seven(
-        5,
+// A PDV by its number, with its fragment.
+pub(crate) fn data(pdu: &[u8], number: usize) {
+    let f = reading::read_data(pdu, number);
+    let numbers = [
         f.refusal as u64,
         f.id as u64,
         f.control as u64,
         f.start as u64,
         f.len as u64,
-        0,
-        0,
-    );
+    ];
+    print_with(&numbers, reading::fragment(pdu, number));
 }
 
-pub fn title(k: Known) {
+pub(crate) fn title(k: Known) {
     match k {
         Known::Yes => seven(2, 0, 1, 0, 0, 0, 0, 0),
         Known::No => seven(2, 0, 0, 0, 0, 0, 0, 0),
@@ -94,6 +94,6 @@ pub fn title(k: Known) {
     }
 }
 
-pub fn whether(b: bool) {
+pub(crate) fn whether(b: bool) {
     seven(1, mark(b), 0, 0, 0, 0, 0, 0);
 }

@@ -128,7 +128,7 @@ fn read_words(line: &mut [u8; 270002], f: Form, words: &mut [u64; 14]) -> usize 
 }
 
 // Reads the words of a line of n bytes, and answers which call it is, 0 for none.
-pub fn words_in(line: &mut [u8; 270002], n: usize, words: &mut [u64; 14]) -> u8 {
+pub(crate) fn words_in(line: &mut [u8; 270002], n: usize, words: &mut [u64; 14]) -> u8 {
     if 270000 < n {
         0
     } else {
@@ -146,14 +146,14 @@ pub fn words_in(line: &mut [u8; 270002], n: usize, words: &mut [u64; 14]) -> u8 
 }
 
 // The number at a place.
-pub fn number(words: &[u64; 14], k: usize) -> u64
+pub(crate) fn number(words: &[u64; 14], k: usize) -> u64
     requires { ⌜ k < 14 ⌝ }
 {
     words[k]
 }
 
 // The byte at a place.
-pub fn byte(words: &[u64; 14], k: usize) -> u8
+pub(crate) fn byte(words: &[u64; 14], k: usize) -> u8
     requires { ⌜ k < 14 ⌝ }
 {
     let n = words[k];
@@ -161,7 +161,7 @@ pub fn byte(words: &[u64; 14], k: usize) -> u8
 }
 
 // The byte string at a place.
-pub fn bytes<'a>(line: &'a [u8], words: &[u64; 14], k: usize) -> &'a [u8]
+pub(crate) fn bytes<'a>(line: &'a [u8], words: &[u64; 14], k: usize) -> &'a [u8]
     requires { ⌜ k < 14 ⌝ }
 {
     let n = words[k];

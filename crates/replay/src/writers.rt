@@ -26,7 +26,7 @@ fn put(call: u8, line: &[u8], words: &[u64; 14], out: &mut [u8]) -> Sent {
 }
 
 // A writing call.
-pub fn write(call: u8, line: &[u8], words: &[u64; 14]) {
+pub(crate) fn write(call: u8, line: &[u8], words: &[u64; 14]) {
     let n = number(words, 13) as usize;
     let mut out = buffer(0x5A);
     let s = put(call, line, words, front(&mut out, n));

@@ -23,13 +23,14 @@ pub struct Fields {
     pub records: usize,
 }
 
-/// A PDV as read: its ID, control byte, and the fragment's part of the PDU.
+/// A PDV as read: its ID, control byte, and the fragment's part of the PDU, with its bytes.
 #[derive(Clone, Copy, Debug, Default, PartialEq)]
-pub struct Part {
+pub struct Part<'a> {
     pub id: u8,
     pub control: u8,
     pub start: usize,
     pub length: usize,
+    pub fragment: &'a [u8],
 }
 
 pub fn kind(bytes: &[u8]) -> Kind {
@@ -106,11 +107,17 @@ pub fn read_abort(bytes: &[u8]) -> Result<(u8, u8), u8> {
 }
 
 /// Reads a PDV by its number, from 0.
-pub fn read_pdv(bytes: &[u8], number: u64) -> Result<Part, u8> {
+pub fn read_pdv(bytes: &[u8], number: u64) -> Result<Part<'_>, u8> {
     match judge(bytes) {
         Ok(Pdu::Data(pdvs)) if number < pdvs.len() as u64 => {
             let pdv = &pdvs[number as usize];
-            Ok(Part { id: pdv.id, control: pdv.control, start: pdv.at, length: pdv.fragment.len() })
+            Ok(Part {
+                id: pdv.id,
+                control: pdv.control,
+                start: pdv.at,
+                length: pdv.fragment.len(),
+                fragment: pdv.fragment,
+            })
         }
         Ok(Pdu::Data(_)) => Err(4),
         _ => Err(7),

@@ -1,6 +1,7 @@
 //! One call line in, one answer line out; a line of bad form is answered with `?`.
 
 use crate::fields::{kind, read_abort, read_ac, read_pdv, read_rj, read_rq, Fields};
+use crate::generate::hex;
 use crate::machine::{local_event, receive, Answer, Lent, Record, Request};
 use crate::names::{name_is_valid, title_check, title_is_valid, titles_equal};
 use crate::write;
@@ -269,10 +270,12 @@ impl Replay {
         let number = words.number(u64::MAX)?;
         words.end()?;
         Some(match read_pdv(pdu, number) {
-            Ok(part) => format!("0 {} {} {} {}", part.id, part.control, part.start, part.length),
+            Ok(part) => {
+                format!("0 {} {} {} {} {}", part.id, part.control, part.start, part.length, hex(part.fragment))
+            }
             Err(refusal) => {
                 self.last.refusal = refusal;
-                format!("{} 0 0 0 0", refusal)
+                format!("{} 0 0 0 0 -", refusal)
             }
         })
     }

@@ -455,11 +455,11 @@ fn trap_8_reserved_bytes_are_never_tested() {
 
 #[test]
 fn pdv_by_number() {
-    let bytes = [4, 0, 0, 0, 0, 15, 0, 0, 0, 5, 1, 0xff, 7, 7, 7, 0, 0, 0, 2, 3, 0];
+    let bytes = [4, 0, 0, 0, 0, 15, 0, 0, 0, 5, 1, 0xff, 7, 8, 9, 0, 0, 0, 2, 3, 0];
     let part = read_pdv(&bytes, 0).unwrap();
-    assert_eq!((part.id, part.control, part.start, part.length), (1, 0xff, 12, 3));
+    assert_eq!((part.id, part.control, part.start, part.length, part.fragment), (1, 0xff, 12, 3, &[7u8, 8, 9][..]));
     let part = read_pdv(&bytes, 1).unwrap();
-    assert_eq!((part.id, part.control, part.start, part.length), (3, 0, 21, 0));
+    assert_eq!((part.id, part.control, part.start, part.length, part.fragment), (3, 0, 21, 0, &[][..]));
     assert_eq!((read_pdv(&bytes, 2), read_pdv(&bytes, u64::MAX)), (Err(4), Err(4)));
     assert_eq!(read_pdv(&write::release_rq(), 9), Err(7));
 }

@@ -3,17 +3,17 @@
 use borrow.Author.Needs.{needs}
 use Prim.Native.Nat.{_≤_, _-_}
 use lib.ListN.{length}
-use Rattle.replay.proofs.print.print.Statement.{statement}
-use Rattle.replay.proofs.print.print.Tie as tie
+use Rattle.replay.proofs.print.decimals.Statement.{statement}
+use Rattle.replay.proofs.print.decimals.Tie as tie
 
 abbrev Inv-loop : tie.InvT-loop
-Inv-loop numbers i₀ t3 t4 i = i ≤ length numbers
+Inv-loop numbers i₀ t3 i = i ≤ length numbers
 
 abbrev μ-loop : tie.MeasureT-loop
-μ-loop numbers i₀ t3 t4 i = length numbers - i
+μ-loop numbers i₀ t3 i = length numbers - i
 
-pub print-spec : {M : Type 1} → statement M
-print-spec =
+pub decimals-spec : {M : Type 1} → statement M
+decimals-spec =
     tie.close
     (tie.spec
     Inv-loop
@@ -27,6 +27,4 @@ print-spec =
     (λ c. search needs)  -- add-i
     (λ c. search needs)  -- loop-less
     (λ c. search needs)  -- loop-again
-    (λ c. search needs)  -- slice-aggregate-write-all-2
-    (λ c κs. search needs)  -- write-all-requires-2
     (λ c. search needs))  -- returns
