@@ -1,5 +1,5 @@
 pub mod RefusalLaws
+pub mod OrderLaws
 pub mod DeedLaws
-pub mod TenLaws
 pub mod MarkLaws
 pub mod Agree

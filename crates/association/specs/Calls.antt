@@ -2,16 +2,17 @@
 use Prim.Native.Nat.{ℕ}
 use mathlib.Core.Bool.{Bool, cond}
 use mathlib.Core.Option.{Option, none, some}
-use mathlib.Core.List.{List}
+use mathlib.Core.List.{List, [], _∷_, _++_}
 use lib.ListN.{length}
 use lib.Dec.{eqb, ltb}
+use Rattle.laws.specs.Refusals.{firstDue}
 use Rattle.octets.specs.Put.{front}
 use Rattle.framing.specs.Engine as eng
 use Rattle.association.specs.declared.Assoc.{Assoc}
 use Rattle.association.specs.declared.Answer.{Answer}
-use Rattle.association.specs.Refusals.{recordRefusal, refusedWith}
+use Rattle.association.specs.Refusals.{recordTests, refusedWith}
 use Rattle.association.specs.Events.{Local}
-use Rattle.association.specs.Machine.{Seen, upper, requestRefusal, onLocal}
+use Rattle.association.specs.Machine.{Seen, upper, requestTests, onLocal}
 
 pub record Call : Type 0 where
   pub answer : Answer
@@ -32,7 +33,7 @@ withCount a n = record { state = a .state; gathered = n; deaf = a .deaf; artim =
 
 -- 6, 3, 6 for L, and "2: .. for receiving, always when below 10 bytes"
 unfoldable pub receiveRefusal : Assoc → List ℕ → List ℕ → ℕ
-receiveRefusal a g o = cond (eqb (recordRefusal a g 16390) 0) (cond (ltb (length o) 10) 2 0) (recordRefusal a g 16390)
+receiveRefusal a g o = firstDue (recordTests a g 16390 ++ ((ltb (length o) 10, 2) ∷ []))
 
 abbrev pub lentOf : Assoc → List ℕ → List ℕ → eng.Lent upper
 lentOf a g o = record { state = withCount a 0; count = a .gathered; gather = g; out = o }
@@ -61,7 +62,7 @@ receiveOf a g p o = unless (receiveRefusal a g o) a g o (heard (eng.receive uppe
 
 -- 6, 3, 6 for L; 1, 4, 5 and 2
 unfoldable pub localRefusal : Assoc → List ℕ → List ℕ → Local → ℕ
-localRefusal a g o e = cond (eqb (recordRefusal a g (a .gathered)) 0) (requestRefusal a e (length o)) (recordRefusal a g (a .gathered))
+localRefusal a g o e = firstDue (recordTests a g (a .gathered) ++ requestTests a e (length o))
 
 unfoldable pub localOf : Assoc → List ℕ → List ℕ → Local → Call
 localOf a g o e =

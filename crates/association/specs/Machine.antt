@@ -2,12 +2,13 @@
 use Prim.Native.Nat.{ℕ}
 use mathlib.Core.Bool.{Bool, true, false, cond}
 use mathlib.Core.Option.{Option, none, some}
-use mathlib.Core.List.{List, []}
+use mathlib.Core.List.{List, [], _∷_}
 use lib.Dec.{eqb}
+use Rattle.laws.specs.Refusals.{firstDue}
 use Rattle.framing.specs.Reference.{Machine, Reaction}
 use Rattle.table.specs.Actions.{showsOf}
 use Rattle.table.specs.Table.{cellOf, isReceived}
-use Rattle.writing.specs.Form.{Form, refusalOf}
+use Rattle.writing.specs.Form.{Form, formTests}
 use Rattle.writing.specs.Ten.{tenOf, NONE}
 use Rattle.association.specs.declared.Assoc.{Assoc}
 use Rattle.association.specs.Record.{dropping}
@@ -57,11 +58,12 @@ formOf action own = record { good = true; most = 16384; pdu = tenOf (tenBy actio
 formOf action bad = record { good = false; most = 0; pdu = [] }
 formOf action (given f) = f
 
--- "1: local event at a blank cell", then 4, 5 and 2 for what it sends into an output of so many bytes; 0 for none
+-- "1: local event at a blank cell", then 4, 5 and 2 for what it sends into an output of so many bytes
+abbrev pub requestTests : Assoc → Local → ℕ → List (Bool × ℕ)
+requestTests a e room = (eqb (localAction a e) 0, 1) ∷ formTests (formOf (localAction a e) (sendsOf a e)) room
+
 unfoldable pub requestRefusal : Assoc → Local → ℕ → ℕ
-requestRefusal a e room =
-    let action = localAction a e in
-    cond (eqb action 0) 1 (refusalOf (formOf action (sendsOf a e)) room)
+requestRefusal a e room = firstDue (requestTests a e room)
 
 unfoldable pub onLocal : Assoc → Local → Reaction Assoc Seen
 onLocal a e = doing (localAction a e) (numberOf e) a (inputOf (sendsOf a e))

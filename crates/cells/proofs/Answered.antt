@@ -7,7 +7,7 @@ use mathlib.Core.List.{List, [], _++_}
 use native.Mathlib.Omega.{arith}
 use lib.Dec.{eqb}
 use lib.ListN.{length, take, replicate}
-use borrow.Author.Tests.{ne-eqb, eqb-true, eqb-false}
+use borrow.Author.Tests.{ne-eqb}
 use Rattle.octets.specs.Put.{front}
 use Rattle.framing.specs.Framing.{Frame, frame, Frame.short, Frame.long, Frame.whole}
 use Rattle.framing.specs.Engine as eng
@@ -18,6 +18,7 @@ use Rattle.association.specs.Refusals.{recordRefusal, refusedWith}
 use Rattle.association.specs.Events.{Local}
 use Rattle.association.specs.Machine.{upper, requestRefusal, onLocal}
 use Rattle.association.specs.Calls.{Call, call, withCount, lentOf, heard, receiveRefusal, receiveOf, localRefusal, localOf}
+use Rattle.association.proofs.OrderLaws.{local-passed}
 use Rattle.cells.proofs.Kept.{upper-laws}
 use Rattle.cells.proofs.Unbroken.{Fine}
 use Rattle.cells.proofs.Ready.{receives-of, ready-of, fine-lent}
@@ -91,10 +92,4 @@ module _ (a : Assoc) (g o : List ℕ) (e : Local) where
     pub request-fine : requestRefusal a e (length o) ≡ 0
 
   pub takes-of : localRefusal a g o e ≡ 0 → Takes
-  unfolding localRefusal
-  takes-of h = by (eqb (recordRefusal a g (a .gathered)) 0) refl h
-    where
-      by : (x : Bool) → eqb (recordRefusal a g (a .gathered)) 0 ≡ x
-          → _≡_ {A = ℕ} (cond x (requestRefusal a e (length o)) (recordRefusal a g (a .gathered))) 0 → Takes
-      by true p h = record { record-fine = eqb-true _ _ p; request-fine = h }
-      by false p h = absurd (eqb-false _ _ p h)
+  takes-of h = let p = local-passed a g o e h in record { record-fine = p .0; request-fine = p .1 }

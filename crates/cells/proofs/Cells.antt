@@ -28,6 +28,7 @@ use Rattle.association.specs.Events.{Local, eventOf, eventOfKind, invalid, numb
 use Rattle.association.specs.Deeds.{Input, brings, acceptsAt, after}
 use Rattle.association.specs.Machine.{upper, doing, onEvent, onLocal, localCell, requestRefusal}
 use Rattle.association.specs.Calls.{call, withCount, lentOf, heard, receiveRefusal, receiveOf, localRefusal, localOf}
+use Rattle.association.proofs.OrderLaws.{local-steps, request-steps}
 use Rattle.cells.specs.Cells.{calls, bytesOf, eventBy, pduBy, eventIn, pduIn, Did, Demand2}
 use Rattle.cells.specs.Cells as cells
 use Rattle.cells.proofs.Moves.{Received, received-by}
@@ -175,10 +176,10 @@ module _ (a : Assoc) (g o : List ℕ) (e : Local) where
       rw (local-done a g o e h) (record { answered = refl; action = c .same; state = s ∙ ap (λ (n : ℕ). nextOf n false (a .requestor)) (c .same) })
 
   blank-at : recordRefusal a g (a .gathered) ≡ 0 → cellOf (numberOf e) (a .state) ≡ 0 → localOf a g o e ≡ call (refusedWith 1 a) g o
-  unfolding localOf localRefusal requestRefusal
+  unfolding localOf
   blank-at h c =
       let z : localCell (numberOf e) (a .state) ≡ 0 = blank-cell (numberOf e) (a .state) c in
-      rw (h, z)
+      rw (local-steps a g o e, h, request-steps a e (length o), z)
 
 -- ---- a deaf association
 deaf-drops : (a : Assoc) → a .deaf ≡ true → dropping a ≡ true

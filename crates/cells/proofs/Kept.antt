@@ -21,7 +21,7 @@ use Rattle.association.specs.Deeds.{after, entering}
 use Rattle.association.specs.Deeds.{Input.whole, Input.long}
 use Rattle.association.specs.Machine.{Seen, inputOf, doing, onEvent, onLocal, requestRefusal, upper}
 use Rattle.cells.proofs.Unbroken.{Sound, sound-of}
-use Rattle.association.proofs.TenLaws.{ten-length}
+use Rattle.writing.proofs.TenLaws.{ten-length}
 use Rattle.cells.proofs.Sound.{sound-pdu, sound-long}
 use Rattle.cells.proofs.Given.{sound-local, sends-room}
 

@@ -8,7 +8,7 @@ use native.Mathlib.Omega.{arith}
 use lib.Dec.{eqb, ltb}
 use lib.ListN.{length, take}
 use lib.Seq.{length-take-le}
-use borrow.Author.Tests.{le-ltb, ltb-false, eqb-true, eqb-false}
+use borrow.Author.Tests.{le-ltb}
 use Rattle.framing.specs.Framing.{frame, Frame.short}
 use Rattle.framing.specs.Engine as eng
 use Rattle.framing.proofs.Framing.{no-event-fits}
@@ -18,6 +18,7 @@ use Rattle.association.specs.Record.{dropping, brokenOver}
 use Rattle.association.specs.Refusals.{recordRefusal}
 use Rattle.association.specs.Machine.{upper}
 use Rattle.association.specs.Calls.{withCount, lentOf, receiveRefusal}
+use Rattle.association.proofs.OrderLaws.{receive-steps, receive-passed}
 use Rattle.cells.proofs.Unbroken.{Sound, Fine, fine, not-broken, not-refused, quiet-of, good-length}
 use Rattle.cells.proofs.Kept.{upper-laws}
 
@@ -57,14 +58,7 @@ receives-by a g o F h =
     record { fine-record = F; within = w; quiet = quiet-of (a .gathered) g w (F .length-good); out-room = h }
 
 pub receives-of : (a : Assoc) (g o : List ℕ) → receiveRefusal a g o ≡ 0 → Receives a g o
-unfolding receiveRefusal
-receives-of a g o h = by (eqb (recordRefusal a g 16390) 0) refl (ltb (length o) 10) refl h
-  where
-    by : (x : Bool) → eqb (recordRefusal a g 16390) 0 ≡ x → (y : Bool) → ltb (length o) 10 ≡ y
-        → _≡_ {A = ℕ} (cond x (cond y 2 0) (recordRefusal a g 16390)) 0 → Receives a g o
-    by true p true q h = absurd (omega arith)
-    by true p false q h = receives-by a g o (fine a g 16390 (eqb-true _ _ p)) (ltb-false _ _ q)
-    by false p y q h = absurd (eqb-false _ _ p h)
+receives-of a g o h = let p = receive-passed a g o h in receives-by a g o (fine a g 16390 (p .0)) (p .1)
 
 -- ---- what holds between calls from a fresh association on
 
@@ -102,7 +96,6 @@ fine-given a g F = record { sound = F .sound; room = omega (arith, F .sound .few
 
 -- refusals 6, 3 and 2 do not come
 pub receive-answered : (a : Assoc) (g o : List ℕ) → ReadyAt a g o → receiveRefusal a g o ≡ 0
-unfolding receiveRefusal
 receive-answered a g o r =
     let z : recordRefusal a g 16390 ≡ 0 = not-refused a g 16390 (fine-ready a g o r) in
-    rw (z, le-ltb (length o) 10 (omega (arith, r .output)))
+    rw (receive-steps a g o, z, le-ltb (length o) 10 (omega (arith, r .output)))

@@ -14,6 +14,7 @@ use Rattle.framing.proofs.Framing.{frame-few, frame-part, length-take-field, no
 use Rattle.association.specs.declared.Assoc.{Assoc}
 use Rattle.association.specs.Record.{dropping, timed, strayState, overfull, strayDeaf, mistimed, badLength, markedIdle, clauses, broken}
 use Rattle.association.specs.Refusals.{recordRefusal}
+use Rattle.association.proofs.OrderLaws.{passed}
 
 -- ---- truth values
 never : {A : Type 0} (b : Bool) → b ≡ true → b ≡ false → A
@@ -136,17 +137,8 @@ pub record Fine (a : Assoc) (g : List ℕ) (least : ℕ) : Type 0 where
   pub room : least ≤ length g
   pub length-good : badLength (a .gathered) g ≡ false
 
-past : (b : Bool) (x y : ℕ) → (x ≡ 0 → ⊥) → cond b x y ≡ 0 → (b ≡ false) × (y ≡ 0)
-past true x y h e = absurd (h e)
-past false x y h e = (refl, e)
-
 pub fine : (a : Assoc) (g : List ℕ) (least : ℕ) → recordRefusal a g least ≡ 0 → Fine a g least
-unfolding recordRefusal
-fine a g least e =
-    let p = past (broken a) 6 (cond (ltb (length g) least) 3 (cond (badLength (a .gathered) g) 6 0)) (λ q. omega arith) e in
-    let q = past (ltb (length g) least) 3 (cond (badLength (a .gathered) g) 6 0) (λ q. omega arith) (p .1) in
-    let r = past (badLength (a .gathered) g) 6 0 (λ q. omega arith) (q .1) in
-    record { sound = sound-of a (p .0); room = ltb-false _ _ (q .0); length-good = r .0 }
+fine a g least e = let p = passed a g least e in record { sound = sound-of a (p .whole); room = p .room; length-good = p .fits }
 
 pub not-refused : (a : Assoc) (g : List ℕ) (least : ℕ) → Fine a g least → recordRefusal a g least ≡ 0
 unfolding recordRefusal

@@ -24,7 +24,7 @@ use Rattle.writing.specs.Ten.{tenOf}
 use Rattle.association.specs.Deeds.{Input}
 use Rattle.association.specs.Machine.{upper, doing, onEvent, onLocal}
 use Rattle.association.specs.Calls.{Call, call, withCount, lentOf, heard, receiveRefusal, receiveOf, localRefusal, localOf}
-use Rattle.association.proofs.TenLaws.{ten-length}
+use Rattle.writing.proofs.TenLaws.{ten-length}
 use Rattle.cells.specs.Cells.{calls}
 use Rattle.cells.specs.Gather.{GatherOnlyTested}
 use Rattle.cells.proofs.Given.{sends-room}

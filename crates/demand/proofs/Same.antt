@@ -29,6 +29,7 @@ use Rattle.association.specs.Events.{Local.plain, Local.confirm, Local.accept, 
 use Rattle.association.specs.Deeds.{Input}
 use Rattle.association.specs.Machine.{Seen, upper, localAction, inputOf, doing, onEvent, onLocal, requestRefusal}
 use Rattle.association.specs.Calls.{Call, call, withCount, lentOf, heard, localRefusal, localOf}
+use Rattle.association.proofs.OrderLaws.{local-steps}
 use Rattle.cells.proofs.Unbroken.{Sound, Fine, not-refused}
 use Rattle.cells.proofs.Sound.{brought-filled, long-filled}
 use Rattle.cells.proofs.Given.{OwnCell, acts, cell-own, next-is, request-roomy}
@@ -135,9 +136,8 @@ module _ (s : Lent) (r : At s) (e : Local) where
 
   -- the refusal is the reference's
   pub refused-same : localRefusal (s .assoc) (s .gather) (s .out) e ≡ requestRefusal (withCount (s .assoc) 0) e 16390
-  unfolding localRefusal
   refused-same =
-      rw (not-refused (s .assoc) (s .gather) (s .assoc .gathered) F)
+      rw (local-steps (s .assoc) (s .gather) (s .out) e, not-refused (s .assoc) (s .gather) (s .assoc .gathered) F)
       (request-roomy (s .assoc) e (length (s .out)) (r .output) ∙ sym (request-same (s .assoc) e 16390))
 
   abbrev asRan : Call → Ran (Entry Seen) (eng.Lent upper)

@@ -238,9 +238,13 @@ module _ (x : List ℕ) (k : ℕ) (p : k ≡ kindOf x) where
   unfolding maximumOf
   max-other h g = rw (← p, ne-eqb k 1 h, ne-eqb k 2 g)
 
--- no bytes
+-- ---- no bytes are no PDU
+pub kind-none : kindOf [] ≡ 0
+unfolding kindOf whole be32 be16
+kind-none = refl
+
 pub acceptable-none : acceptable [] ≡ false
-unfolding acceptable kindOf
-acceptable-none = rw (← whole-short [] (omega arith))
+unfolding acceptable
+acceptable-none = rw kind-none
 
 pub ruleset asked-laws = (needs, accept-other, accept-version, max-request-long, max-accept-long, max-request, max-accept, max-other)

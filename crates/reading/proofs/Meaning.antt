@@ -8,7 +8,7 @@ use mathlib.Core.Path.{_≡_, refl, sym, ap, _∙_}
 use lib.ListN.{length, take, drop, getD, length-map, length-append, length-drop}
 use lib.Seq.{take-at, drop-at, drop-drop}
 use lib.Dec.{leb, eqb}
-use borrow.Author.Tests.{le-leb, leb-true}
+use borrow.Author.Tests.{le-leb, leb-true, ne-eqb, eqb-true}
 use Rattle.laws.specs.Lists.{all, distinct}
 use Rattle.laws.proofs.Booleans.{left-of, right-of, both-of}
 use Rattle.octets.specs.Put.{front}
@@ -23,7 +23,7 @@ use Rattle.judging.proofs.KindLaws.{request-items, accept-items}
 use Rattle.sheets.specs.Contexts.{Context, Answered, contextId, answeredId, contextOk, transferOk, answeredOk, contextsOk, allAnsweredOk}
 use Rattle.sheets.specs.Sheet.{sheetOf, answerSheetOf, contextsIn, answersIn, proposalOk, answersOk}
 use Rattle.sheets.proofs.Inverse.{contexts-back, contexts-proposal, answered-back, answered-answers, proposal-whole, answers-whole}
-use Rattle.reading.specs.Associate.{contextOf, answerOf, proposed, answered, applicationOf, applicationAt, sheetIn, refused, fieldsOf, associateOf, filling, Read}
+use Rattle.reading.specs.Associate.{contextOf, answerOf, proposed, answered, applicationOf, applicationAt, sheetIn, refused, fieldsOf, associateRefusal, associateOf, filling, Read}
 use Rattle.reading.specs.declared.associate.Associate.{Associate}
 
 -- ---- the contexts of a valid RQ are good
@@ -108,27 +108,27 @@ application-stands x = ap (take (length (first (bodies 0x10 (walk (drop 74 x))))
 
 -- ---- the sheet
 module _ (kind : ℕ) (x s : List ℕ) (r : Associate) (s′ : List ℕ) (w : Read kind x s r s′) where
+  -- the refusal is the first that applies
+  pub refusal-is : r .refusal ≡ associateRefusal kind x (length s)
+  unfolding associateOf
+  refusal-is = ap (λ (q : Associate). q .refusal) (w .answer) ∙ go (associateRefusal kind x (length s)) (eqb (associateRefusal kind x (length s)) 0) refl
+    where
+      go : (n : ℕ) (b : Bool) → eqb n 0 ≡ b → cond b (fieldsOf kind x) (refused n) .refusal ≡ n
+      go n true e = sym (eqb-true n 0 e)
+      go n false e = refl
+
   -- "Nothing is written when refused"
   pub untouched : (r .refusal ≡ 0 → ⊥) → s′ ≡ s
-  unfolding associateOf filling front
-  untouched n = w .sheet ∙ go (eqb (kindOf x) kind) (leb (length (sheetIn kind x)) (length s)) (w .answer)
-    where
-      go : (a b : Bool) → r ≡ cond a (cond b (fieldsOf kind x) (refused 2)) (refused 7) → cond (a && b) (sheetIn kind x) [] ++ drop (length (cond (a && b) (sheetIn kind x) [])) s ≡ s
-      go true true e = absurd (n (ap (λ (q : Associate). q .refusal) e))
-      go true false e = refl
-      go false b e = refl
+  unfolding filling front
+  untouched n = w .sheet ∙ rw (ne-eqb (associateRefusal kind x (length s)) 0 (λ e. n (refusal-is ∙ e)))
 
   -- an answered call: the records in front, and no byte beyond them changed
   module _ (z : r .refusal ≡ 0) where
     both : (r ≡ fieldsOf kind x) × (s′ ≡ sheetIn kind x ++ drop (length (sheetIn kind x)) s)
     unfolding associateOf filling front
-    both = go (eqb (kindOf x) kind) (leb (length (sheetIn kind x)) (length s)) (w .answer) (w .sheet)
-      where
-        go : (a b : Bool) → r ≡ cond a (cond b (fieldsOf kind x) (refused 2)) (refused 7) → s′ ≡ cond (a && b) (sheetIn kind x) [] ++ drop (length (cond (a && b) (sheetIn kind x) [])) s
-            → (r ≡ fieldsOf kind x) × (s′ ≡ sheetIn kind x ++ drop (length (sheetIn kind x)) s)
-        go true true e f = (e, f)
-        go true false e f = absurd (let q : 0 ≡ 2 = sym z ∙ ap (λ (q : Associate). q .refusal) e in omega arith)
-        go false b e f = absurd (let q : 0 ≡ 7 = sym z ∙ ap (λ (q : Associate). q .refusal) e in omega arith)
+    both =
+        let e : associateRefusal kind x (length s) ≡ 0 = sym refusal-is ∙ z in
+        (w .answer ∙ rw e, w .sheet ∙ rw e)
 
     pub in-front : take (length (sheetIn kind x)) s′ ≡ sheetIn kind x
     in-front = ap (take (length (sheetIn kind x))) (both .1) ∙ take-at (sheetIn kind x) (drop (length (sheetIn kind x)) s) (length (sheetIn kind x)) refl

@@ -6,11 +6,11 @@ use mathlib.Core.Bool.{Bool, true, false, _&&_, cond}
 use mathlib.Core.List.{List, [], _∷_, _++_, map}
 use mathlib.Core.Path.{_≡_, refl, sym, ap, _∙_}
 use lib.ListN.{length, take, drop, getD, length-append, length-drop}
-use lib.Dec.{leb, eqb}
+use lib.Dec.{ltb, eqb}
 use borrow.Author.Needs.{needs}
 use mir.Val.{Fits}
 use mir.Syntax.{w64}
-use borrow.Author.Tests.{le-leb, lt-leb, eq-eqb, ne-eqb, eqb-true, eqb-false}
+use borrow.Author.Tests.{lt-ltb, le-ltb, eq-eqb, ne-eqb, eqb-true, eqb-false}
 use Rattle.laws.specs.Lists.{all}
 use Rattle.laws.proofs.Booleans.{left-of, right-of}
 use Rattle.laws.proofs.Places.{part-tail}
@@ -174,7 +174,7 @@ module _ (x o : List ℕ) (kind b : ℕ) (a : 1 ≤ kind) (c : kind ≤ 2) (e : 
       unfolding associateOf filling front
       read-narrow r l q =
           let s = size-is in
-          let z : leb (length (sheetIn kind x)) (length o) ≡ false = lt-leb (length (sheetIn kind x)) (length o) (omega arith) in
+          let z : ltb (length o) (length (sheetIn kind x)) ≡ true = lt-ltb (length o) (length (sheetIn kind x)) (omega arith) in
           record { answer = q ∙ simp (yes, z); sheet = simp (yes, z) }
 
       module _ (l : n ≤ length o / 132) where
@@ -185,7 +185,7 @@ module _ (x o : List ℕ) (kind b : ℕ) (a : 1 ≤ kind) (c : kind ≤ 2) (e : 
         unfolding associateOf filling
         read-done r m o′ w q =
             let s = size-is in
-            let z : leb (length (sheetIn kind x)) (length o) ≡ true = le-leb (length (sheetIn kind x)) (length o) (omega arith) in
+            let z : ltb (length o) (length (sheetIn kind x)) ≡ false = le-ltb (length o) (length (sheetIn kind x)) (omega arith) in
             let d : length (sheetIn kind x) / 132 ≡ n = omega arith in
             record {
               answer = q ∙ (fields-of x kind a c n is d ∙ simp (yes, z));

@@ -1,10 +1,11 @@
 -- Reading an RQ and an AC. "Reading an RQ or AC fills the sheet in PDU order; room is 132 times the records."
 use Prim.Native.Nat.{ℕ, _+_, _/_}
 use mathlib.Core.Path.{_≡_}
-use mathlib.Core.Bool.{_&&_, cond}
-use mathlib.Core.List.{List, [], map}
+use mathlib.Core.Bool.{Bool, not, cond}
+use mathlib.Core.List.{List, [], _∷_, map}
 use lib.ListN.{length, drop, getD}
-use lib.Dec.{leb, eqb}
+use lib.Dec.{ltb, eqb}
+use Rattle.laws.specs.Refusals.{firstDue}
 use Rattle.octets.specs.Put.{front}
 use Rattle.items.specs.Items.{walk, bodies, first, place}
 use Rattle.judging.specs.Pdu.{versionOf, topItems, kindOf, maximumOf}
@@ -55,16 +56,21 @@ fieldsOf kind pdu =
     }
 
 -- 7, no whole valid PDU of the kind; then 2, too little room in the sheet
+abbrev pub associateTests : ℕ → List ℕ → ℕ → List (Bool × ℕ)
+associateTests kind pdu room =
+    (not (eqb (kindOf pdu) kind), 7)
+    ∷ (ltb room (length (sheetIn kind pdu)), 2)
+    ∷ []
+
+abbrev pub associateRefusal : ℕ → List ℕ → ℕ → ℕ
+associateRefusal kind pdu room = firstDue (associateTests kind pdu room)
+
 unfoldable pub associateOf : ℕ → List ℕ → ℕ → Associate
-associateOf kind pdu room =
-    cond (eqb (kindOf pdu) kind)
-    (cond (leb (length (sheetIn kind pdu)) room) (fieldsOf kind pdu)
-    (refused 2))
-    (refused 7)
+associateOf kind pdu room = cond (eqb (associateRefusal kind pdu room) 0) (fieldsOf kind pdu) (refused (associateRefusal kind pdu room))
 
 -- what the sheet then starts with
 unfoldable pub filling : ℕ → List ℕ → ℕ → List ℕ
-filling kind pdu room = cond (eqb (kindOf pdu) kind && leb (length (sheetIn kind pdu)) room) (sheetIn kind pdu) []
+filling kind pdu room = cond (eqb (associateRefusal kind pdu room) 0) (sheetIn kind pdu) []
 
 -- a PDU of a kind was read into the sheet s, which is now s′, and r is the answer
 pub record Read (kind : ℕ) (pdu s : List ℕ) (r : Associate) (s′ : List ℕ) : Type 0 where

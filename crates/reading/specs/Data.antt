@@ -1,9 +1,10 @@
 -- "Reading a PDV by its number, from 0, hands back the fragment's own part of the gathered PDU. A number past the last is refused with 4."
 use Prim.Native.Nat.{ℕ, _+_}
-use mathlib.Core.Bool.{cond}
-use mathlib.Core.List.{List, []}
+use mathlib.Core.Bool.{Bool, not, cond}
+use mathlib.Core.List.{List, [], _∷_}
 use lib.ListN.{length, take, drop, getD}
 use lib.Dec.{ltb, eqb}
+use Rattle.laws.specs.Refusals.{firstDue}
 use Rattle.pdvs.specs.Data.{Pdv, pdvs, size}
 use Rattle.judging.specs.Pdu.{kindOf}
 use Rattle.reading.specs.declared.data.DataRead.{DataRead}
@@ -21,10 +22,18 @@ unfoldable pub startOf : List Pdv → ℕ → ℕ
 startOf ps n = 6 + size (take n ps) + 6
 
 -- 7, no whole valid P-DATA-TF; then 4, a number past the last
+abbrev pub dataTests : List ℕ → ℕ → List (Bool × ℕ)
+dataTests pdu n =
+    (not (eqb (kindOf pdu) 4), 7)
+    ∷ (not (ltb n (length (pdvsOf pdu))), 4)
+    ∷ []
+
+abbrev pub dataRefusal : List ℕ → ℕ → ℕ
+dataRefusal pdu n = firstDue (dataTests pdu n)
+
 unfoldable pub dataOf : List ℕ → ℕ → DataRead
 dataOf pdu n =
-    cond (eqb (kindOf pdu) 4)
-    (cond (ltb n (length (pdvsOf pdu)))
+    cond (eqb (dataRefusal pdu n) 0)
     (record {
       refusal = 0;
       id = pdv (pdvsOf pdu) n .id;
@@ -32,8 +41,7 @@ dataOf pdu n =
       start = startOf (pdvsOf pdu) n;
       len = length (pdv (pdvsOf pdu) n .fragment);
     })
-    (record { refusal = 4; id = 0; control = 0; start = 0; len = 0 }))
-    (record { refusal = 7; id = 0; control = 0; start = 0; len = 0 })
+    (record { refusal = dataRefusal pdu n; id = 0; control = 0; start = 0; len = 0 })
 
 -- the part of the PDU from that start, of that length: the fragment (DataLaws.fragment-is), and nothing where refused
 unfoldable pub fragmentOf : List ℕ → ℕ → List ℕ

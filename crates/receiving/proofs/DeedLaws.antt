@@ -21,7 +21,7 @@ use Rattle.association.specs.declared.Brings.{Brings}
 use Rattle.association.specs.Events.{eventOfKind, eventOf, invalid}
 use Rattle.association.specs.Deeds.{Input, Input.whole, Input.long, acceptsAt, peerAt, brings, after, abortFor, tenBy}
 use Rattle.association.specs.Machine.{Seen, doing, onEvent}
-use Rattle.association.proofs.TenLaws.{ten-length, ten-out, ten-count}
+use Rattle.writing.proofs.TenLaws.{ten-length, ten-out, ten-count}
 use Rattle.receiving.specs.declared.deeds.Deed.{Deed}
 use Rattle.receiving.specs.Steps.{doneOf, Acted, toldOf, tellOf, Did}
 

@@ -1,28 +1,30 @@
 -- From what the callees of a local event leave to what the call is: a law for each way out.
 -- Assumes nothing.
-use Prim.Native.Nat.{ℕ, _-_, _≤_, _<_}
+use Prim.Native.Nat.{ℕ, _≤_, _<_}
 use mathlib.Core.Path.{_≡_, refl, sym, ap, _∙_, subst}
 use mathlib.Core.Bool.{Bool, true, false, cond}
 use mathlib.Core.List.{List, [], _∷_}
 use native.Mathlib.Omega.{arith}
-use lib.Dec.{eqb, ltb, leb}
+use lib.Dec.{eqb}
 use lib.ListN.{length}
 use borrow.Author.Needs.{needs}
-use borrow.Author.Tests.{eq-eqb, ne-eqb, le-leb, lt-leb, eqb-true, eqb-false}
+use borrow.Author.Tests.{eq-eqb, ne-eqb, eqb-true, eqb-false}
 use Rattle.laws.specs.Lists.{among}
 use Rattle.octets.specs.Put.{front, Placed}
 use Rattle.writing.specs.declared.Sent.{Sent}
-use Rattle.writing.specs.Form.{Form, refusalOf, sentBytes, sentOf, Wrote}
+use Rattle.writing.specs.Form.{Form, refusalOf, Wrote}
 use Rattle.writing.specs.Ten.{tenOf, NONE}
+use Rattle.writing.proofs.FormLaws.{refusal-4, refusal-is, refused-kept, sent-count, out-is}
+use Rattle.writing.proofs.TenLaws.{ten-out, ten-count, own-short, own-fine}
 use Rattle.association.specs.declared.Assoc.{Assoc}
 use Rattle.association.specs.declared.Answer.{Answer}
 use Rattle.association.specs.declared.Brings.{Brings}
 use Rattle.association.specs.Refusals.{recordRefusal, refusedWith}
 use Rattle.association.specs.Events.{Local, Local.plain, numberOf, Sends, Sends.own, Sends.bad, Sends.given, plainSends, sendsOf}
 use Rattle.association.specs.Deeds.{Input, Input.bare, Input.contents, brings, after, sentBy, tenBy}
-use Rattle.association.specs.Machine.{Seen, doing, localCell, inputOf, formOf, requestRefusal, onLocal}
-use Rattle.association.specs.Calls.{Call, call, unless, localRefusal, localOf}
-use Rattle.association.proofs.TenLaws.{ten-length, ten-out, ten-count}
+use Rattle.association.specs.Machine.{Seen, doing, localCell, inputOf, formOf, onLocal}
+use Rattle.association.specs.Calls.{Call, call, unless, localOf}
+use Rattle.association.proofs.OrderLaws.{request-steps, local-steps}
 use Rattle.requests.specs.declared.Gate.{Gate}
 use Rattle.requests.specs.Gates.{gateOf, answeredOf, finishOf}
 
@@ -82,16 +84,16 @@ abbrev Gated : Assoc → List ℕ → ℕ → Gate → Type 0
 Gated a g number k = (k .refusal ≡ 0 → Gone a g number k) × ((k .refusal ≡ 0 → ⊥) → (e : Local) → numberOf e ≡ number → Shut a g k e)
 
 gated : (a : Assoc) (g : List ℕ) (number : ℕ) → Gated a g number (gateOf a g number)
-unfolding gateOf localOf localRefusal requestRefusal
+unfolding gateOf localOf
 gated a g number = by (eqb (recordRefusal a g (a .gathered)) 0) refl (eqb (localCell number (a .state)) 0) refl
   where
     by : (b : Bool) → eqb (recordRefusal a g (a .gathered)) 0 ≡ b → (c : Bool) → eqb (localCell number (a .state)) 0 ≡ c
         → Gated a g number
         (cond b (cond c (record { refusal = 1; action = 0 }) (record { refusal = 0; action = localCell number (a .state) }))
         (record { refusal = recordRefusal a g (a .gathered); action = 0 }))
-    by true eb true ec = (λ z. absurd (omega arith), λ n e q. record { calls = λ o. rw (eb, q, ec) })
+    by true eb true ec = (λ z. absurd (omega arith), λ n e q. record { calls = λ o. rw (local-steps a g o e, eb, request-steps a e (length o), q, ec) })
     by true eb false ec = (λ z. record { clear = eqb-true _ _ eb; act = refl; filled = eqb-false _ _ ec }, λ n. absurd (n refl))
-    by false eb c ec = (λ z. absurd (eqb-false _ _ eb z), λ n e q. record { calls = λ o. rw eb (rw eb) })
+    by false eb c ec = (λ z. absurd (eqb-false _ _ eb z), λ n e q. record { calls = λ o. rw (local-steps a g o e, eb) (rw eb) })
 
 gated-at : (a : Assoc) (g : List ℕ) (number : ℕ) (k : Gate) → k ≡ gateOf a g number → Gated a g number k
 gated-at a g number k e = subst (Gated a g number) (sym e) (gated a g number)
@@ -109,8 +111,8 @@ module _ (a : Assoc) (g o : List ℕ) (e : Local) (number : ℕ) (k : Gate) (ek 
 
     -- what is left to be tested is the form of what it sends
     went : localOf a g o e ≡ unless (refusalOf (formOf (k .action) s) (length o)) a g o (doneWith a g o (k .action) number s)
-    unfolding localOf localRefusal requestRefusal onLocal doneWith
-    went = rw (eq-eqb _ _ (G .clear), same, es, ne-eqb (k .action) 0 (λ z. G .filled (sym (G .act) ∙ z)), en)
+    unfolding localOf onLocal doneWith
+    went = rw (local-steps a g o e, eq-eqb _ _ (G .clear), request-steps a e (length o), same, es, ne-eqb (k .action) 0 (λ z. G .filled (sym (G .act) ∙ z)), en)
 
 -- ---- the call once nothing refuses it, by what it wants sent
 own-done : (a : Assoc) (g o : List ℕ) (act number : ℕ) → doneWith a g o act number own ≡ call (answeredOf a act (length (tenOf (tenBy act false NONE)))) g (front o (tenOf (tenBy act false NONE)))
@@ -124,14 +126,19 @@ given-done a g o act number f = refl
 module _ (a : Assoc) (g o : List ℕ) (e : Local) (number : ℕ) (k : Gate) (ek : k ≡ gateOf a g number) (en : numberOf e ≡ number) (z : k .refusal ≡ 0) where
   -- with contents: the writer refuses, or has written
   pub finish-at : (f : Form) → sendsOf a e ≡ given f → (s : Sent) (o′ : List ℕ) (r : Answer) → Wrote f o s o′ → r ≡ finishOf a (k .action) s → call r g o′ ≡ localOf a g o e
-  unfolding finishOf sentOf sentBytes front
-  finish-at f es s o′ r W er = rw (er, W .answer, W .out) (sym (went a g o e number k ek en z (given f) es ∙ rw (given-done a g o (k .action) number f) (by (eqb (refusalOf f (length o)) 0))))
+  unfolding finishOf
+  finish-at f es s o′ r W er = by (eqb (refusalOf f (length o)) 0) refl
     where
-      by : (b : Bool)
-          → cond b (call (answeredOf a (k .action) (length (f .pdu))) g (front o (f .pdu))) (call (refusedWith (refusalOf f (length o)) a) g o)
-          ≡ call (cond b (answeredOf a (k .action) (length (cond b (f .pdu) []))) (refusedWith (refusalOf f (length o)) a)) g (front o (cond b (f .pdu) []))
-      by true = refl
-      by false = refl
+      is : localOf a g o e ≡ unless (refusalOf f (length o)) a g o (call (answeredOf a (k .action) (length (f .pdu))) g (front o (f .pdu)))
+      is = went a g o e number k ek en z (given f) es ∙ rw (given-done a g o (k .action) number f)
+
+      by : (b : Bool) → eqb (refusalOf f (length o)) 0 ≡ b → call r g o′ ≡ localOf a g o e
+      by true q =
+          let c : s .refusal ≡ 0 = refusal-is f o s o′ W ∙ eqb-true _ _ q in
+          rw (er, c, sent-count f o s o′ W c, out-is f o s o′ W c) (sym (is ∙ rw q))
+      by false q =
+          let n : (s .refusal ≡ 0 → ⊥) = λ c. eqb-false _ _ q (sym (refusal-is f o s o′ W) ∙ c) in
+          rw (er, ne-eqb (s .refusal) 0 n, refusal-is f o s o′ W, refused-kept f o s o′ W n) (sym (is ∙ rw q))
 
 -- by its number alone
 module _ (a : Assoc) (g o : List ℕ) (number : ℕ) (k : Gate) (ek : k ≡ gateOf a g number) (z : k .refusal ≡ 0) (x : Bool) (ex : x ≡ among number (2 ∷ 7 ∷ 8 ∷ 9 ∷ [])) where
@@ -140,27 +147,17 @@ module _ (a : Assoc) (g o : List ℕ) (number : ℕ) (k : Gate) (ek : k ≡ gate
   sends s e = rw (← ex) e
 
   pub plain-bad : (r : Answer) → x ≡ true → r ≡ refusedWith 4 a → call r g o ≡ localOf a g o (plain number)
-  unfolding refusalOf
-  plain-bad r t er = rw er (sym (went a g o (plain number) number k ek refl z bad (sends bad (rw t))))
+  plain-bad r t er = rw er (sym (went a g o (plain number) number k ek refl z bad (sends bad (rw t)) ∙ rw (refusal-4 (formOf (k .action) bad) (length o) refl)))
 
   module _ (f : x ≡ false) (ten : ℕ) (et : ten ≡ tenBy (k .action) false NONE) (n : ℕ) (en : n ≡ length (tenOf ten)) where
-    small : leb (length (tenOf ten) - 6) 16384 ≡ true
-    small = le-leb (length (tenOf ten) - 6) 16384 (omega (arith, ten-length ten))
-
-    form-refusal : refusalOf (formOf (k .action) own) (length o) ≡ cond (leb (length (tenOf ten)) (length o)) 0 2
-    unfolding refusalOf
-    form-refusal = rw (← et, small)
-
     own-went : localOf a g o (plain number)
-        ≡ unless (cond (leb (length (tenOf ten)) (length o)) 0 2) a g o (call (answeredOf a (k .action) (length (tenOf ten))) g (front o (tenOf ten)))
-    own-went =
-        went a g o (plain number) number k ek refl z own (sends own (rw f))
-        ∙ rw (form-refusal, own-done a g o (k .action) number, ← et)
+        ≡ unless (refusalOf (record { good = true; most = 16384; pdu = tenOf ten }) (length o)) a g o (call (answeredOf a (k .action) (length (tenOf ten))) g (front o (tenOf ten)))
+    own-went = went a g o (plain number) number k ek refl z own (sends own (rw f)) ∙ rw (own-done a g o (k .action) number, ← et)
 
     pub plain-short : (r : Answer) → length o < n → r ≡ refusedWith 2 a → call r g o ≡ localOf a g o (plain number)
-    plain-short r h er = rw er (sym (own-went ∙ rw (lt-leb (length (tenOf ten)) (length o) (omega arith))))
+    plain-short r h er = rw er (sym (own-went ∙ rw (own-short ten (length o) (omega arith))))
 
     pub plain-done : (m : ℕ) (o′ : List ℕ) (r : Answer) → n ≤ length o → Placed o 0 (tenOf ten) m o′ → r ≡ answeredOf a (k .action) m → call r g o′ ≡ localOf a g o (plain number)
     plain-done m o′ r h P er =
         let fits : length (tenOf ten) ≤ length o = omega arith in
-        rw (er, ten-count ten o o′ m P fits, ten-out ten o o′ m P fits) (sym (own-went ∙ rw (le-leb (length (tenOf ten)) (length o) fits)))
+        rw (er, ten-count ten o o′ m P fits, ten-out ten o o′ m P fits) (sym (own-went ∙ rw (own-fine ten (length o) fits)))

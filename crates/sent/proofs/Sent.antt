@@ -11,17 +11,15 @@ use lib.ListN.{length, take, drop}
 use lib.Seq.{take-at}
 use borrow.Author.Tests.{eqb-true, eqb-false}
 use Rattle.laws.specs.Lists.{among}
-use Rattle.octets.specs.Octets.{be16, be32}
 use Rattle.octets.specs.Put.{put, front}
-use Rattle.judging.specs.Pdu.{kindOf, typeOf, whole as isWhole}
-use Rattle.judging.proofs.KindLaws.{kind-whole, whole-length, whole-limit}
+use Rattle.judging.specs.Pdu.{kindOf, typeOf}
+use Rattle.judging.proofs.KindLaws.{kind-none, kind-whole, whole-length, whole-limit}
 use Rattle.framing.specs.Framing.{Frame, frame, Frame.short, Frame.long, Frame.whole}
 use Rattle.framing.specs.Engine as eng
 use Rattle.writing.specs.Ten.{NONE, ABORT-INVALID, tenOf}
-use Rattle.writing.specs.Form.{rqForm, acForm, rejectForm, dataForm}
-use Rattle.trips.proofs.RqTrip.{rq-trip}
-use Rattle.trips.proofs.AcTrip.{ac-trip}
-use Rattle.trips.proofs.SmallTrip.{reject-trip, data-trip}
+use Rattle.writing.specs.Form.{Form, refusalOf, sentBytes, rqForm, acForm, rejectForm, dataForm}
+use Rattle.writing.proofs.FormLaws.{answered}
+use Rattle.trips.proofs.SentTrip.{sent-rq, sent-ac, sent-reject, sent-data}
 use Rattle.table.specs.Table.{cellOf, isReceived}
 use Rattle.table.specs.Actions.{actions, doesOf, nextOf}
 use Rattle.association.specs.declared.Assoc.{Assoc}
@@ -34,17 +32,13 @@ use Rattle.association.specs.Calls.{Call, withCount, lentOf, heard, localRefusa
 use Rattle.cells.specs.Cells.{calls, bytesOf}
 use Rattle.cells.proofs.Moves.{received-by}
 use Rattle.cells.proofs.Sound.{entering-state, never}
-use Rattle.cells.proofs.Given.{OwnCell, Fits, form-fits, sends-form, cell-own, next-at}
+use Rattle.cells.proofs.Given.{OwnCell, form-fine, sends-form, cell-own, next-at}
 use Rattle.cells.proofs.Answered.{received, doneLocal, local-done, takes-of}
 use Rattle.cells.proofs.Calls.{receive-refusal, local-refusal}
 use Rattle.sent.specs.Sent.{bytesSent, kindNamed, kindDue, AsNamed, sendsContents, ReadsBack, Sending}
 use Rattle.sent.proofs.Named.{ten, IsAbort, is-invalid, is-abort, hasContents, givenKind, heard-named, given-named, contents-sent}
 
 -- ---- bytes at the start of an output
-
-kind-none : kindOf [] ≡ 0
-unfolding kindOf isWhole be32 be16
-kind-none = refl
 
 -- a whole valid PDU has at most 16,390
 few : (bs : List ℕ) → (kindOf bs ≡ 0 → bs ≡ []) → length bs ≤ 16390
@@ -114,18 +108,24 @@ record Gives (e : Local) (action : ℕ) (bs : List ℕ) : Type 0 where
   none : givenKind (numberOf e) action ≡ 0 → bs ≡ []
   reads : ReadsBack action e bs
 
-gives : (a : Assoc) (e : Local) (action room : ℕ) → sendsContents action ≡ hasContents (numberOf e) → Fits (formOf action (sendsOf a e)) room
+-- a form that is not refused sends its PDU
+sends-pdu : (f : Form) (room : ℕ) → refusalOf f room ≡ 0 → sentBytes f room ≡ f .pdu
+sends-pdu f room z = answered f room z .sent
+
+gives : (a : Assoc) (e : Local) (action room : ℕ) → sendsContents action ≡ hasContents (numberOf e) → refusalOf (formOf action (sendsOf a e)) room ≡ 0
     → Gives e action (formOf action (sendsOf a e) .pdu)
-unfolding plainSends rqForm acForm rejectForm dataForm among
-gives a (plain n) action room c F = by (hasContents n) refl F
+unfolding plainSends among
+gives a (plain n) action room c z = by (hasContents n) refl z
   where
-    by : (b : Bool) → hasContents n ≡ b → Fits (formOf action (cond b bad own)) room → Gives (plain n) action (formOf action (cond b bad own) .pdu)
-    by true q F = never false refl (F .good)
-    by false q F = let t = ten (tenBy action false NONE) in record { kind = rw q (t .kind); none = rw q (t .none); reads = c ∙ q }
-gives a (confirm f) action room c F = let t = rq-trip f (F .good) (F .most) in record { kind = t .kind; none = λ z. absurd (omega arith); reads = t }
-gives a (accept f) action room c F = let t = ac-trip f (F .good) (F .most) in record { kind = t .kind; none = λ z. absurd (omega arith); reads = t }
-gives a (reject f) action room c F = let t = reject-trip f (F .good) in record { kind = t .kind; none = λ z. absurd (omega arith); reads = t }
-gives a (send f) action room c F = let t = data-trip (a .«peer_max») f (F .good) (F .most) in record { kind = t .kind; none = λ z. absurd (omega arith); reads = t }
+    by : (b : Bool) → hasContents n ≡ b → refusalOf (formOf action (cond b bad own)) room ≡ 0 → Gives (plain n) action (formOf action (cond b bad own) .pdu)
+    by true q z = never false refl (answered (formOf action bad) room z .good)
+    by false q z = let t = ten (tenBy action false NONE) in record { kind = rw q (t .kind); none = rw q (t .none); reads = c ∙ q }
+gives a (confirm f) action room c z = let t = rw (sends-pdu (rqForm f) room z) at (sent-rq room f z) in record { kind = t .kind; none = λ n. absurd (omega arith); reads = t }
+gives a (accept f) action room c z = let t = rw (sends-pdu (acForm f) room z) at (sent-ac room f z) in record { kind = t .kind; none = λ n. absurd (omega arith); reads = t }
+gives a (reject f) action room c z = let t = rw (sends-pdu (rejectForm f) room z) at (sent-reject room f z) in record { kind = t .kind; none = λ n. absurd (omega arith); reads = t }
+gives a (send f) action room c z =
+    let t = rw (sends-pdu (dataForm (a .«peer_max») f) room z) at (sent-data room (a .«peer_max») f z) in
+    record { kind = t .kind; none = λ n. absurd (omega arith); reads = t }
 
 module _ (a : Assoc) (g o : List ℕ) (e : Local) (h : localRefusal a g o e ≡ 0) where
   fine : requestRefusal a e (length o) ≡ 0
@@ -137,7 +137,7 @@ module _ (a : Assoc) (g o : List ℕ) (e : Local) (h : localRefusal a g o e ≡ 
   given-bytes : Gives e (cellOf (numberOf e) (a .state)) (onLocal a e .sends)
   given-bytes =
       rw (sends-form a e (length o) fine, own-cell .same)
-      (gives a e (cellOf (numberOf e) (a .state)) (length o) (contents-sent (numberOf e) (a .state) (own-cell .own) (own-cell .filled)) (rw (own-cell .same) at (form-fits a e (length o) fine)))
+      (gives a e (cellOf (numberOf e) (a .state)) (length o) (contents-sent (numberOf e) (a .state) (own-cell .own) (own-cell .filled)) (rw (own-cell .same) at (form-fine a e (length o) fine)))
 
   action-is : onLocal a e .told .action ≡ cellOf (numberOf e) (a .state)
   unfolding onLocal doing

@@ -1,15 +1,15 @@
 -- Laws of good records and sheets: each way through the tests, and that the records tested one by one give the rule over the contexts.
 -- Assumes nothing.
-use Prim.Native.Nat.{ℕ, _+_, _-_, _%_, _≤_, _<_}
+use Prim.Native.Nat.{ℕ, zero, suc, _+_, _-_, _*_, _%_, _≤_, _<_}
 use native.Mathlib.Omega.{arith}
 use mathlib.Core.Bool.{Bool, true, false, not, _&&_, cond, and-false}
 use mathlib.Core.List.{List, [], _∷_, map}
 use mathlib.Core.Path.{_≡_, refl, sym, ap, _∙_}
 use lib.ListN.{length, take, drop, getD, length-drop, length-map}
-use lib.Seq.{length-take-le}
+use lib.Seq.{length-take-le, drop-drop}
 use lib.Dec.{leb, eqb}
 use borrow.Author.Needs.{needs}
-use borrow.Author.Tests.{le-leb, lt-leb, eq-eqb, ne-eqb, eqb-true, not-true, not-false}
+use borrow.Author.Tests.{le-leb, lt-leb, eq-eqb, ne-eqb, eqb-true, eqb-false, not-true, not-false}
 use Rattle.laws.specs.Lists.{all, distinct, sameBytes}
 use Rattle.laws.proofs.Booleans.{left-of, right-of, held}
 use Rattle.laws.proofs.Places.{all-passes, all-fails, all-end, part-tail}
@@ -18,6 +18,7 @@ use Rattle.names.specs.Name.{nameOk}
 use Rattle.octets.specs.Octets.{odd}
 use Rattle.sheets.specs.Contexts.{Context, contextId, answeredId, contextOk, transferOk, answeredOk, contextsOk, allAnsweredOk}
 use Rattle.sheets.specs.Sheet.{recordId, abstractOf, transferOf, recordsOf, goesOn, firstTransfers, others, start, runs, contextsIn, answeredOf, answersIn, zero?, fieldOk, fieldsOk, proposes, answers, proposalOk, answersOk}
+use Rattle.sheets.specs.Record.{recordAt}
 use Rattle.sheets.specs.Parts.{proposalRecord, answerRecord, recordOk, idsIn}
 use Rattle.sheets.proofs.RunLaws.{records-cons, records-none, record-here, contexts-here, contexts-none, no-run}
 
@@ -246,6 +247,22 @@ module _ (s : List ℕ) where
     proposal-good b d q t x = x ∙ sym (proposal-is ∙ simp (sym q ∙ not-false b t))
 
 pub ruleset proposal-laws = (needs, proposal-none, proposal-part, proposal-bad, proposal-good)
+
+-- ---- one bad record, whatever the others and however many
+all-but : (p : List ℕ → Bool) (s : List ℕ) (k : ℕ) → 132 * k + 132 ≤ length s → p (recordAt s (132 * k)) ≡ false → all p (recordsOf s) ≡ false
+all-but p s zero h e = rw (records-cons s (omega arith)) (simp e)
+all-but p s (suc k) h e =
+    let q : 132 + 132 * k ≡ 132 * suc k = omega arith in
+    let r = all-but p (drop 132 s) k (omega (arith, length-drop 132 s)) (rw (drop-drop (132 * k) 132 s, q) e) in
+    rw (records-cons s (omega arith), r) (and-false (p (take 132 s)))
+
+pub bad-record : (s : List ℕ) (k : ℕ) → 132 * k + 132 ≤ length s → proposalRecord (recordAt s (132 * k)) ≡ false → proposalOk s ≡ false
+unfolding recordOk
+bad-record s k h e = go (eqb (length s % 132) 0) refl
+  where
+    go : (b : Bool) → eqb (length s % 132) 0 ≡ b → proposalOk s ≡ false
+    go true q = sym (proposal-bad s (λ z. omega arith) (eqb-true _ _ q) (all (recordOk false) (recordsOf s)) refl (rw (all-but (recordOk false) s k h e)))
+    go false q = sym (proposal-part s (eqb-false _ _ q))
 
 -- ---- `answers_ok`
 answered-ids : (rs : List (List ℕ)) → map answeredId (map answeredOf rs) ≡ map recordId rs

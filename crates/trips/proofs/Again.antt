@@ -29,6 +29,7 @@ use Rattle.reading.specs.Associate.{contextOf, answerOf, proposed, answered, ap
 use Rattle.writing.specs.Fields.{rqGood, acGood}
 use Rattle.writing.specs.Wire.{Frame, frameItems, frameBytes, pduBytes, ourUser, contextBody, answerBody, rqFrame, acFrame}
 use Rattle.writing.specs.Form.{refusalOf, sentBytes, rqForm, acForm}
+use Rattle.writing.proofs.FormLaws.{refusal-0}
 use Rattle.trips.specs.Trips.{RqTrip, AcTrip, rqRead, acRead}
 use Rattle.trips.proofs.MetTrip.{first-good, some-30, some-40, some-10, some-context, some-50}
 use Rattle.trips.proofs.Share.{share, three, first-share}
@@ -224,13 +225,13 @@ module _ (pdu : List ℕ) (e : kindOf pdu ≡ 1) where
 
   -- so with room for as many bytes no call refuses them
   pub rq-again : (room : ℕ) → length pdu ≤ room → refusalOf (rqForm (rqRead pdu)) room ≡ 0
-  unfolding refusalOf rqForm
+  unfolding rqForm
   rq-again room h =
       let w = kind-whole pdu 1 e (λ z. omega arith) in
       let a = whole-length pdu w in
       let b = whole-limit pdu w in
       let s = rq-again-short in
-      simp (rq-again-good, le-leb (length (frameBytes (rqFrame (rqRead pdu))) - 6) 16384 (omega arith), le-leb (length (frameBytes (rqFrame (rqRead pdu)))) room (omega arith))
+      refusal-0 (rqForm (rqRead pdu)) room rq-again-good (omega arith) (omega arith)
 
   -- and what is sent reads as the same fields once more
   pub rq-again-trip : (room : ℕ) → length pdu ≤ room → RqTrip (rqRead pdu) (sentBytes (rqForm (rqRead pdu)) room)
@@ -275,13 +276,13 @@ module _ (pdu : List ℕ) (e : kindOf pdu ≡ 2) where
       omega arith
 
   pub ac-again : (room : ℕ) → length pdu ≤ room → refusalOf (acForm (acRead pdu)) room ≡ 0
-  unfolding refusalOf acForm
+  unfolding acForm
   ac-again room h =
       let w = kind-whole pdu 2 e (λ z. omega arith) in
       let a = whole-length pdu w in
       let b = whole-limit pdu w in
       let s = ac-again-short in
-      simp (ac-again-good, le-leb (length (frameBytes (acFrame (acRead pdu))) - 6) 16384 (omega arith), le-leb (length (frameBytes (acFrame (acRead pdu)))) room (omega arith))
+      refusal-0 (acForm (acRead pdu)) room ac-again-good (omega arith) (omega arith)
 
   pub ac-again-trip : (room : ℕ) → length pdu ≤ room → AcTrip (acRead pdu) (sentBytes (acForm (acRead pdu)) room)
   ac-again-trip room h = sent-ac room (acRead pdu) (ac-again room h)

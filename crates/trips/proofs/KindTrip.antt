@@ -6,7 +6,7 @@ use mathlib.Core.List.{List}
 use mathlib.Core.Path.{_≡_}
 use lib.ListN.{length}
 use lib.Dec.{eqb}
-use borrow.Author.Tests.{le-leb}
+use borrow.Author.Tests.{le-ltb}
 use Rattle.contents.specs.Contents.{maximumIn}
 use Rattle.judging.specs.Pdu.{topItems, kindOf, maximumOf}
 use Rattle.reading.specs.Associate.{sheetIn, fieldsOf, associateOf, filling}
@@ -23,8 +23,8 @@ maximum-2 pdu e = rw e
 module _ (kind : ℕ) (pdu : List ℕ) (e : eqb (kindOf pdu) kind ≡ true) (room : ℕ) (h : length (sheetIn kind pdu) ≤ room) where
   pub read-is : associateOf kind pdu room ≡ fieldsOf kind pdu
   unfolding associateOf
-  read-is = simp (e, le-leb _ _ h)
+  read-is = simp (e, le-ltb _ _ h)
 
   pub filled-is : filling kind pdu room ≡ sheetIn kind pdu
   unfolding filling
-  filled-is = simp (e, le-leb _ _ h)
+  filled-is = simp (e, le-ltb _ _ h)

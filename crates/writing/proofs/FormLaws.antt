@@ -3,47 +3,46 @@
 -- Assumes nothing.
 use Prim.Native.Nat.{ℕ, _-_, _≤_, _<_}
 use native.Mathlib.Omega.{arith}
-use mathlib.Core.Bool.{Bool, true, false, cond}
-use mathlib.Core.List.{List, []}
+use mathlib.Core.Bool.{Bool, true, false, not, cond}
+use mathlib.Core.List.{List, [], _∷_}
 use mathlib.Core.Path.{_≡_, refl, sym, ap, _∙_}
 use lib.ListN.{length, take, drop}
-use lib.Dec.{leb, eqb}
-use borrow.Author.Tests.{le-leb, lt-leb, ne-eqb, leb-true}
+use lib.Dec.{leb, ltb, eqb}
+use borrow.Author.Tests.{lt-ltb, le-ltb, ltb-false, leb-true, ne-eqb, not-false}
+use Rattle.laws.specs.Lists.{among}
+use Rattle.laws.specs.Refusals.{firstDue}
+use Rattle.laws.proofs.Refusals.{not-due}
 use Rattle.laws.proofs.Agree.{agree}
 use Rattle.octets.specs.Put.{front}
 use Rattle.octets.proofs.PutLaws.{put-front, front-start, front-behind}
-use Rattle.writing.specs.Form.{Form, refusalOf, sentBytes, sentOf, Wrote}
+use Rattle.writing.specs.Fields.{RqFields, AcFields, Reject, Items}
+use Rattle.writing.specs.Form.{Form, formTests, refusalOf, sentBytes, sentOf, Wrote, rqForm, acForm, rejectForm, mostOf, dataForm}
 use Rattle.writing.specs.Inner.{Put}
 use Rattle.writing.specs.declared.Sent.{Sent}
 
--- ---- in the order 4, 5, 2
-module _ (f : Form) (o : List ℕ) where
-  refused : (n : ℕ) → refusalOf f (length o) ≡ n → eqb n 0 ≡ false → Wrote f o (record { refusal = n; count = 0 }) o
-  unfolding sentOf sentBytes front
-  refused n e z = record { answer = simp (e, z); out = simp (e, z) }
-
-  pub wrote-bad : f .good ≡ false → Wrote f o (record { refusal = 4; count = 0 }) o
+-- ---- when each refusal is given, and when none is
+module _ (f : Form) (room : ℕ) where
+  pub refusal-due : firstDue (formTests f room) ≡ refusalOf f room
   unfolding refusalOf
-  wrote-bad e = refused 4 (simp e) refl
+  refusal-due = refl
+
+  pub refusal-4 : f .good ≡ false → refusalOf f room ≡ 4
+  unfolding refusalOf
+  refusal-4 e = rw e
 
   module _ (g : f .good ≡ true) where
-    pub wrote-long : f .most < length (f .pdu) - 6 → Wrote f o (record { refusal = 5; count = 0 }) o
+    pub refusal-5 : f .most < length (f .pdu) - 6 → refusalOf f room ≡ 5
     unfolding refusalOf
-    wrote-long h = refused 5 (simp (g, lt-leb _ _ h)) refl
+    refusal-5 h = rw (g, lt-ltb _ _ h)
 
     module _ (h : length (f .pdu) - 6 ≤ f .most) where
-      pub wrote-short : length o < length (f .pdu) → Wrote f o (record { refusal = 2; count = 0 }) o
+      pub refusal-2 : room < length (f .pdu) → refusalOf f room ≡ 2
       unfolding refusalOf
-      wrote-short l = refused 2 (simp (g, le-leb _ _ h, lt-leb _ _ l)) refl
+      refusal-2 l = rw (g, le-ltb _ _ h, lt-ltb _ _ l)
 
-      pub wrote-fine : (o′ : List ℕ) (r : ℕ) → length (f .pdu) ≤ length o → Put o 0 (f .pdu) r o′ → Wrote f o (record { refusal = 0; count = r }) o′
-      unfolding refusalOf sentOf sentBytes
-      wrote-fine o′ r l p =
-          let e : refusalOf f (length o) ≡ 0 = simp (g, le-leb _ _ h, le-leb _ _ l) in
-          let c : r ≡ length (f .pdu) = (let b = p .behind in omega arith) in
-          record { answer = rw c (simp e); out = p .out ∙ (put-front o (f .pdu) ∙ simp e) }
-
--- ---- what every form promises
+      pub refusal-0 : length (f .pdu) ≤ room → refusalOf f room ≡ 0
+      unfolding refusalOf
+      refusal-0 l = rw (g, le-ltb _ _ h, le-ltb _ _ l)
 
 -- no refusal: the contents are good, the PDU-length keeps the limit, the PDU has room and is what is sent
 pub record Answered (f : Form) (room : ℕ) : Type 0 where
@@ -54,14 +53,86 @@ pub record Answered (f : Form) (room : ℕ) : Type 0 where
 
 pub answered : (f : Form) (room : ℕ) → refusalOf f room ≡ 0 → Answered f room
 unfolding refusalOf sentBytes
-answered f room z = go (f .good) (leb (length (f .pdu) - 6) (f .most)) (leb (length (f .pdu)) room) refl refl refl z
-  where
-    go : (a b c : Bool) → f .good ≡ a → leb (length (f .pdu) - 6) (f .most) ≡ b → leb (length (f .pdu)) room ≡ c → _≡_ {A = ℕ} (cond a (cond b (cond c 0 2) 5) 4) 0 → Answered f room
-    go true true true p q r e = record { good = p; limit = leb-true _ _ q; space = leb-true _ _ r; sent = simp z }
-    go true true false p q r e = absurd (omega arith)
-    go true false c p q r e = absurd (omega arith)
-    go false b c p q r e = absurd (omega arith)
+answered f room z =
+    let p = not-due (not (f .good)) 4 _ (λ e. omega arith) z in
+    let q = not-due (ltb (f .most) (length (f .pdu) - 6)) 5 _ (λ e. omega arith) (p .1) in
+    let r = not-due (ltb room (length (f .pdu))) 2 0 (λ e. omega arith) (q .1) in
+    record { good = not-false _ (p .0); limit = ltb-false _ _ (q .0); space = ltb-false _ _ (r .0); sent = rw z }
 
+-- ---- a form whose limit is at most 16,384: in an output of 16,390 bytes or more 2 never comes
+module _ (f : Form) (m : f .most ≤ 16384) where
+  pub refusal-roomy : (room : ℕ) → 16390 ≤ room → refusalOf f room ≡ refusalOf f 16390
+  unfolding refusalOf
+  refusal-roomy room h = go (ltb (f .most) (length (f .pdu) - 6)) refl
+    where
+      go : (b : Bool) → ltb (f .most) (length (f .pdu) - 6) ≡ b → refusalOf f room ≡ refusalOf f 16390
+      go true q = rw q
+      go false q =
+          let l : length (f .pdu) - 6 ≤ f .most = ltb-false _ _ q in
+          rw (le-ltb room (length (f .pdu)) (omega (arith, m, h)), le-ltb 16390 (length (f .pdu)) (omega (arith, m)))
+
+  pub refusal-known : among (refusalOf f 16390) (0 ∷ 4 ∷ 5 ∷ []) ≡ true
+  unfolding refusalOf among
+  refusal-known = go (f .good) (ltb (f .most) (length (f .pdu) - 6)) refl
+    where
+      go : (a b : Bool) → ltb (f .most) (length (f .pdu) - 6) ≡ b → among (cond (not a) 4 (cond b 5 (cond (ltb 16390 (length (f .pdu))) 2 0))) (0 ∷ 4 ∷ 5 ∷ []) ≡ true
+      go false b q = refl
+      go true true q = refl
+      go true false q =
+          let l : length (f .pdu) - 6 ≤ f .most = ltb-false _ _ q in
+          rw (le-ltb 16390 (length (f .pdu)) (omega (arith, m)))
+
+-- and so is that of each
+pub most-limit : (peer : ℕ) → mostOf peer ≤ 16384
+unfolding mostOf
+most-limit peer = go (eqb peer 0) (leb peer 16384) refl
+  where
+    go : (b c : Bool) → leb peer 16384 ≡ c → cond b 16384 (cond c peer 16384) ≤ 16384
+    go true c e = omega arith
+    go false true e = leb-true peer 16384 e
+    go false false e = omega arith
+
+pub rq-limit : (f : RqFields) → rqForm f .most ≤ 16384
+unfolding rqForm
+rq-limit f = omega arith
+
+pub ac-limit : (f : AcFields) → acForm f .most ≤ 16384
+unfolding acForm
+ac-limit f = omega arith
+
+pub reject-limit : (f : Reject) → rejectForm f .most ≤ 16384
+unfolding rejectForm
+reject-limit f = omega arith
+
+pub data-limit : (peer : ℕ) (f : Items) → dataForm peer f .most ≤ 16384
+unfolding dataForm
+data-limit peer f = most-limit peer
+
+-- ---- what a writing call leaves, in the order 4, 5, 2
+module _ (f : Form) (o : List ℕ) where
+  refused : (n : ℕ) → refusalOf f (length o) ≡ n → eqb n 0 ≡ false → Wrote f o (record { refusal = n; count = 0 }) o
+  unfolding sentOf sentBytes front
+  refused n e z = record { answer = simp (e, z); out = simp (e, z) }
+
+  pub wrote-bad : f .good ≡ false → Wrote f o (record { refusal = 4; count = 0 }) o
+  wrote-bad e = refused 4 (refusal-4 f (length o) e) refl
+
+  module _ (g : f .good ≡ true) where
+    pub wrote-long : f .most < length (f .pdu) - 6 → Wrote f o (record { refusal = 5; count = 0 }) o
+    wrote-long h = refused 5 (refusal-5 f (length o) g h) refl
+
+    module _ (h : length (f .pdu) - 6 ≤ f .most) where
+      pub wrote-short : length o < length (f .pdu) → Wrote f o (record { refusal = 2; count = 0 }) o
+      wrote-short l = refused 2 (refusal-2 f (length o) g h l) refl
+
+      pub wrote-fine : (o′ : List ℕ) (r : ℕ) → length (f .pdu) ≤ length o → Put o 0 (f .pdu) r o′ → Wrote f o (record { refusal = 0; count = r }) o′
+      unfolding sentOf sentBytes
+      wrote-fine o′ r l p =
+          let e = refusal-0 f (length o) g h l in
+          let c : r ≡ length (f .pdu) = (let b = p .behind in omega arith) in
+          record { answer = rw c (simp e); out = p .out ∙ (put-front o (f .pdu) ∙ simp e) }
+
+-- ---- what every form promises
 module _ (f : Form) (o : List ℕ) where
   module _ (r : Sent) (o′ : List ℕ) (w : Wrote f o r o′) where
     -- the refusal is the first that applies
@@ -92,7 +163,7 @@ module _ (f : Form) (o : List ℕ) where
       unfolding sentOf
       sent-count = ap (λ (x : Sent). x .count) (w .answer) ∙ ap length (fine .sent)
 
-      out-is : o′ ≡ front o (f .pdu)
+      pub out-is : o′ ≡ front o (f .pdu)
       out-is = w .out ∙ ap (front o) (fine .sent)
 
       pub sent-bytes : take (length (f .pdu)) o′ ≡ f .pdu

@@ -1,4 +1,5 @@
--- A sheet of many records: each adds four bytes at least, so a good sheet of more than 4,096 of them (40,000, say) gets 5, and with one bad record 4.
+-- A sheet of many records: each adds four bytes at least, so a good sheet of more than 4,096 of them (40,000, say) gets 5. A sheet
+-- with one record that no proposal may have gets 4.
 -- Assumes nothing.
 use Prim.Native.Nat.{ℕ, _+_, _-_, _*_, _/_, _≤_, _<_}
 use native.Mathlib.Omega.{arith}
@@ -6,7 +7,6 @@ use mathlib.Core.Bool.{true, false, _&&_, and-false}
 use mathlib.Core.List.{List, [], _∷_, _++_, map}
 use mathlib.Core.Path.{_≡_, refl, sym, ap, _∙_}
 use lib.ListN.{length, replicate, length-append}
-use borrow.Author.Tests.{lt-leb}
 use lib.Dec.{leb}
 use Rattle.laws.specs.Lists.{all, distinct, joined}
 use Rattle.laws.proofs.Booleans.{left-of, right-of}
@@ -18,11 +18,15 @@ use Rattle.items.proofs.WireLaws.{item-length, items-cons}
 use Rattle.octets.specs.Octets.{odd}
 use Rattle.sheets.specs.Contexts.{Context, contextId, contextOk, contextsOk}
 use Rattle.sheets.specs.Sheet.{recordBytes, contextRecords, sheetOf, contextsIn, proposalOk}
+use Rattle.sheets.specs.Record.{recordAt}
+use Rattle.sheets.specs.Parts.{proposalRecord}
 use Rattle.sheets.proofs.RecordLaws.{record-length}
+use Rattle.sheets.proofs.GoodLaws.{bad-record}
 use Rattle.sheets.proofs.Inverse.{proposal-contexts, proposal-back}
 use Rattle.writing.specs.Fields.{RqFields, rqGood}
 use Rattle.writing.specs.Wire.{frameItems, frameBytes, pduBytes, contextBody, rqFrame}
 use Rattle.writing.specs.Form.{rqForm, refusalOf}
+use Rattle.writing.proofs.FormLaws.{refusal-4, refusal-5}
 
 -- the transfer names of contexts, one a record
 rows : List Context → ℕ
@@ -74,7 +78,7 @@ frame-long f =
     omega arith
 
 pub many-records : (f : RqFields) (room : ℕ) → rqGood f ≡ true → 4096 < length (f .sheet) / 132 → refusalOf (rqForm f) room ≡ 5
-unfolding refusalOf rqForm rqGood contextsOk
+unfolding rqForm rqGood contextsOk
 many-records f room g h =
     let s : proposalOk (f .sheet) ≡ true = right-of (nameOk (f .application)) _ (right-of (titleOk (f .calling)) _ (right-of (titleOk (f .called)) _ g)) in
     let k : all contextOk (contextsIn (f .sheet)) ≡ true = left-of _ (distinct (map contextId (contextsIn (f .sheet)))) (right-of (leb 1 (length (contextsIn (f .sheet)))) _ (proposal-contexts (f .sheet) s)) in
@@ -82,8 +86,9 @@ many-records f room g h =
     let b = ap length (proposal-back (f .sheet) s) in
     let i = items-long (contextsIn (f .sheet)) in
     let n = frame-long f in
-    simp (g, lt-leb (length (frameBytes (rqFrame f)) - 6) 16384 (omega arith))
+    refusal-5 (rqForm f) room g (omega arith)
 
-pub one-bad-record : (f : RqFields) (room : ℕ) → proposalOk (f .sheet) ≡ false → refusalOf (rqForm f) room ≡ 4
-unfolding refusalOf rqForm rqGood
-one-bad-record f room e = simp (e, and-false)
+-- whatever the other records, and however many
+pub one-bad-record : (f : RqFields) (room k : ℕ) → 132 * k + 132 ≤ length (f .sheet) → proposalRecord (recordAt (f .sheet) (132 * k)) ≡ false → refusalOf (rqForm f) room ≡ 4
+unfolding rqForm rqGood
+one-bad-record f room k h e = refusal-4 (rqForm f) room (simp (bad-record (f .sheet) k h e, and-false))

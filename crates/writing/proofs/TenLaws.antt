@@ -1,6 +1,7 @@
 -- Laws of the ten-byte PDUs.
 -- Assumes nothing.
 use Prim.Native.Nat.{ℕ, zero, suc, _≤_, _<_}
+use native.Mathlib.Nat.{zero-add}
 use native.Mathlib.Omega.{arith}
 use mathlib.Core.Bool.{Bool, true, false, not}
 use mathlib.Core.List.{List, [], _∷_}
@@ -8,16 +9,16 @@ use mathlib.Core.Path.{_≡_, refl, sym, ap, _∙_}
 use lib.ListN.{length, set, List·getD-eq-default}
 use lib.Dec.{leb, eqb}
 use borrow.Author.Needs.{needs}
-use borrow.Author.Tests.{eq-eqb, ne-eqb, leb-true, leb-false, not-true, not-false}
-use Rattle.octets.specs.Put.{Placed}
-use Rattle.octets.proofs.PutLaws.{put-none, placed-fits, behind-fits}
+use borrow.Author.Tests.{eq-eqb, ne-eqb, eqb-true, eqb-false, leb-true, leb-false, not-true, not-false}
+use Rattle.octets.specs.Put.{front, Placed}
+use Rattle.octets.proofs.PutLaws.{put-none, put-out, put-behind, put-front, placed-fits, behind-fits}
 use Rattle.reasons.specs.Values.{rejectOk, abortOk}
 use Rattle.writing.specs.Fields.{rejectOf, abortOf, rejectGood, abortGood}
 use Rattle.writing.specs.Ten.{tens, tenOf, rejectBytes, abortBytes}
-use Rattle.writing.specs.Form.{Wrote, rejectForm, releaseRqForm, releaseRpForm, abortForm}
+use Rattle.writing.specs.Form.{refusalOf, Wrote, rejectForm, releaseRqForm, releaseRpForm, abortForm}
 use Rattle.writing.specs.Inner.{Put, tenForm}
 use Rattle.writing.specs.declared.Sent.{Sent}
-use Rattle.writing.proofs.FormLaws.{wrote-bad, wrote-short, wrote-fine}
+use Rattle.writing.proofs.FormLaws.{refusal-0, refusal-2, wrote-bad, wrote-short, wrote-fine}
 
 -- ---- `ten_of`
 module _ (w : ℕ) where
@@ -72,6 +73,31 @@ ten-long (suc (suc (suc (suc (suc zero))))) n l = refl
 ten-long (suc (suc (suc (suc (suc (suc zero)))))) n l = refl
 ten-long (suc (suc (suc (suc (suc (suc (suc zero))))))) n l = refl
 ten-long (suc (suc (suc (suc (suc (suc (suc (suc w)))))))) n l = absurd (omega arith)
+
+-- no number has more
+pub ten-length : (w : ℕ) → length (tenOf w) ≤ 10
+ten-length w = go (eqb w 0) refl (leb w 7) refl
+  where
+    go : (a : Bool) → eqb w 0 ≡ a → (b : Bool) → leb w 7 ≡ b → length (tenOf w) ≤ 10
+    go true p b q = rw (ten-none w (eqb-true _ _ p)) (omega arith)
+    go false p true q = omega (arith, ten-long w (eqb-false _ _ p) (leb-true _ _ q))
+    go false p false q = rw (ten-past w (leb-false _ _ q)) (omega arith)
+
+-- ---- what `write_ten` leaves where there is room: the bytes at the start
+module _ (w : ℕ) (o o′ : List ℕ) (n : ℕ) (P : Placed o 0 (tenOf w) n o′) (h : length (tenOf w) ≤ length o) where
+  pub ten-out : o′ ≡ front o (tenOf w)
+  ten-out = put-out o 0 (tenOf w) P (omega arith) ∙ put-front o (tenOf w)
+
+  pub ten-count : n ≡ length (tenOf w)
+  ten-count = put-behind o 0 (tenOf w) P (omega arith) ∙ zero-add (length (tenOf w))
+
+-- ---- a ten-byte PDU with no contents of the host's, or none, gets 2 or nothing
+module _ (w room : ℕ) where
+  pub own-short : room < length (tenOf w) → refusalOf (record { good = true; most = 16384; pdu = tenOf w }) room ≡ 2
+  own-short h = refusal-2 (record { good = true; most = 16384; pdu = tenOf w }) room refl (omega (arith, ten-length w)) h
+
+  pub own-fine : length (tenOf w) ≤ room → refusalOf (record { good = true; most = 16384; pdu = tenOf w }) room ≡ 0
+  own-fine h = refusal-0 (record { good = true; most = 16384; pdu = tenOf w }) room refl (omega (arith, ten-length w)) h
 
 module _ (w : ℕ) where
   pub len-none : w ≡ 0 → 0 ≡ length (tenOf w)

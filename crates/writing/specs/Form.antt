@@ -2,10 +2,11 @@
 -- no byte beyond them." "Every refusal returns its number, zero counts ..; .. output stay[s] unchanged."
 use Prim.Native.Nat.{ℕ, _-_}
 use mathlib.Core.Path.{_≡_}
-use mathlib.Core.Bool.{Bool, true, cond}
-use mathlib.Core.List.{List, []}
+use mathlib.Core.Bool.{Bool, true, not, cond}
+use mathlib.Core.List.{List, [], _∷_}
 use lib.ListN.{length}
-use lib.Dec.{leb, eqb}
+use lib.Dec.{leb, ltb, eqb}
+use Rattle.laws.specs.Refusals.{firstDue}
 use Rattle.octets.specs.Put.{front}
 use Rattle.writing.specs.Fields.{RqFields, AcFields, Reject, Items, Abort, rqGood, acGood, rejectGood, itemsGood, abortGood}
 use Rattle.writing.specs.Ten.{tenOf, RELEASE-RQ, RELEASE-RP, rejectBytes, abortBytes}
@@ -18,14 +19,17 @@ pub record Form : Type 0 where
   pub most : ℕ
   pub pdu : List ℕ
 
--- "4: bad contents ..; 5: PDU-length to be sent above 16,384, or a P-DATA-TF's above a non-zero peer maximum; 2: output too short. .. tested in this order"; 0: none. "Output room is the PDU-length plus 6."
+-- "4: bad contents ..; 5: PDU-length to be sent above 16,384, or a P-DATA-TF's above a non-zero peer maximum; 2: output too short"; "Output room is the PDU-length plus 6."
+abbrev pub formTests : Form → ℕ → List (Bool × ℕ)
+formTests f room =
+    (not (f .good), 4)
+    ∷ (ltb (f .most) (length (f .pdu) - 6), 5)
+    ∷ (ltb room (length (f .pdu)), 2)
+    ∷ []
+
+-- the first of them that holds, 0 where none does
 unfoldable pub refusalOf : Form → ℕ → ℕ
-refusalOf f room =
-    cond (f .good)
-    (cond (leb (length (f .pdu) - 6) (f .most))
-    (cond (leb (length (f .pdu)) room) 0 2)
-    5)
-    4
+refusalOf f room = firstDue (formTests f room)
 
 -- the bytes sent: none where the call is refused
 unfoldable pub sentBytes : Form → ℕ → List ℕ

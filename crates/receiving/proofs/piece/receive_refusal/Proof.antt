@@ -1,24 +1,20 @@
 -- `receive_refusal` meets its contract.
 -- Assumes nothing.
-use Rattle.association.specs.Calls.{receiveRefusal}
-use Rattle.association.proofs.RefusalLaws.{tests}
+use Rattle.receiving.proofs.Opened.{receive-tests}
 use Rattle.receiving.proofs.piece.receive_refusal.Statement.{statement}
 use Rattle.receiving.proofs.piece.receive_refusal.Tie as tie
 
 record-refusal-requires : tie.Need-record-refusal-requires
-record-refusal-requires c κs = search tests
+record-refusal-requires c κs = search receive-tests
 
 returns : tie.Need-returns
-unfolding receiveRefusal
-returns c = search tests
+returns c = search receive-tests
 
 returns-2 : tie.Need-returns-2
-unfolding receiveRefusal
-returns-2 c = search tests
+returns-2 c = search receive-tests
 
 returns-3 : tie.Need-returns-3
-unfolding receiveRefusal
-returns-3 c = search tests
+returns-3 c = search receive-tests
 
 pub receive-refusal-spec : {M : Type 1} → statement M
 receive-refusal-spec = tie.close (tie.spec record-refusal-requires returns returns-2 returns-3)
