@@ -1,11 +1,7 @@
--- Any two permitted answers agree, for each public function.
+-- Any two permitted answers agree, for each public function; of a slice that is handed back, where it lies and its bytes.
 -- Assumes nothing.
-use mathlib.Core.Path.{_≡_}
-use contract.Lifetimes.{Lfts}
-use denote.Ref.{now}
-use denote.Triple.Clauses.{AtExit}
-use borrow.Fn.Kinds.{Dens, resT, endedOf}
-use Rattle.laws.proofs.Agree.{agree, Agrees}
+use Rattle.laws.proofs.Agree.{agree, Agrees, AgreesPart}
+use Rattle.octets.proofs.SliceLaws.{parts-agree}
 use Rattle.items.proofs.item_end as item-end
 use Rattle.items.proofs.fills as fills
 use Rattle.items.proofs.count_of as count-of
@@ -21,10 +17,8 @@ fills-agrees κs args a b x y p q = agree p q
 pub count-of-agrees : Agrees 1 count-of.Kinds.ps count-of.Kinds.r count-of.Reads.Post
 count-of-agrees κs args a b x y p q = agree p q
 
--- of a slice that is handed back, the bytes agree
-pub first-of-agrees : (κs : Lfts 1) (args : Dens κs first-of.Kinds.ps) (a b : resT first-of.Kinds.r κs .Denot) (x y : AtExit (endedOf 1 first-of.Kinds.ps first-of.Kinds.r) κs)
-    → first-of.Reads.Post κs args a x → first-of.Reads.Post κs args b y → now a ≡ now b
-first-of-agrees κs args a b x y p q = agree p q
+pub first-of-agrees : AgreesPart 1 first-of.Kinds.ps first-of.Kinds.r first-of.Reads.Post (λ κs a. a)
+first-of-agrees κs args a b x y p q = parts-agree p q
 
 pub place-of-agrees : Agrees 1 place-of.Kinds.ps place-of.Kinds.r place-of.Reads.Post
 place-of-agrees κs args a b x y p q = agree p q

@@ -11,6 +11,7 @@ use lib.Dec.{leb, eqb}
 use borrow.Author.Tests.{eq-eqb, ne-eqb, eqb-true}
 use Rattle.laws.specs.Lists.{all}
 use Rattle.laws.proofs.Booleans.{left-of, right-of, both-of}
+use Rattle.octets.proofs.SliceLaws.{place-from}
 use Rattle.items.specs.Items.{Walk, done, broken, item, walk, filled, bodies, first, place, Rule, keeps, itemEnd}
 use Rattle.items.proofs.WalkLaws.{Item, more, stop, over, item-from, item-to, item-less, item-fits, walking}
 
@@ -89,13 +90,16 @@ module _ (t : ℕ) (s : List ℕ) (n at : ℕ) (w : Counting t s n at) where
 
 pub ruleset count-laws = (count-start, count-stop, count-over, count-hit, count-skip, walking)
 
--- ---- `first_of`
+-- ---- `first_of`, with the laws of `place_of` below
 module _ (t : ℕ) (s : List ℕ) (at : ℕ) (all : List ℕ) (v : all ≡ first (bodies t (walk (drop at s)))) where
-  pub first-stop : (e : ℕ) → e ≡ itemEnd s at → e ≡ 0 → at < length s → [] ≡ all
-  first-stop e p z l = sym (v ∙ rw (bodies-stop t s at e p z l))
+  none : take (at - at) (drop at s) ≡ []
+  none = let z : at - at ≡ 0 = omega arith in rw z
 
-  pub first-over : length s ≤ at → [] ≡ all
-  first-over h = sym (v ∙ rw (bodies-over t s at h))
+  pub first-stop : (e : ℕ) → e ≡ itemEnd s at → e ≡ 0 → at < length s → take (at - at) (drop at s) ≡ all
+  first-stop e p z l = none ∙ sym (v ∙ rw (bodies-stop t s at e p z l))
+
+  pub first-over : length s ≤ at → take (at - at) (drop at s) ≡ all
+  first-over h = none ∙ sym (v ∙ rw (bodies-over t s at h))
 
   module _ (e : ℕ) (p : e ≡ itemEnd s at) (k : e ≡ 0 → ⊥) where
     pub first-hit : getD s at 0 ≡ t → take (e - (at + 4)) (drop (at + 4) s) ≡ all
@@ -103,8 +107,6 @@ module _ (t : ℕ) (s : List ℕ) (at : ℕ) (all : List ℕ) (v : all ≡ first
 
     pub first-skip : (getD s at 0 ≡ t → ⊥) → all ≡ first (bodies t (walk (drop e s)))
     first-skip h = v ∙ rw (bodies-skip t (more s at e p k) h)
-
-pub ruleset first-laws = (first-stop, first-over, first-hit, first-skip, walking)
 
 -- ---- `place_of`
 module _ (t : ℕ) (s : List ℕ) (at all : ℕ) (v : all ≡ at + place t (walk (drop at s))) where
@@ -130,3 +132,11 @@ module _ (t : ℕ) (s : List ℕ) (at all : ℕ) (v : all ≡ at + place t (walk
         omega arith
 
 pub ruleset place-laws = (place-stop, place-over, place-hit, place-skip, walking)
+
+-- what is left holds the first body of all, at its place, from a place within the bytes on
+pub record Seeking (t : ℕ) (s : List ℕ) (at : ℕ) : Type 0 where
+  pub body : first (bodies t (walk s)) ≡ first (bodies t (walk (drop at s)))
+  pub place : place t (walk s) ≡ at + place t (walk (drop at s))
+  pub within : at ≤ length s
+
+pub ruleset first-laws = (first-stop, first-over, first-hit, first-skip, place-stop, place-over, place-hit, place-skip, place-from, walking)

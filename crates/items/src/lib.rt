@@ -1,6 +1,7 @@
 // The walk over a holder's items: where an item ends, and what stands in those of a type.
 ghost use mathlib.Core.Path.{_≡_};
 ghost use lib.ListN.{length};
+ghost use Rattle.octets.specs.Slice.{PartOf};
 ghost use Rattle.items.specs.Items.{walk, filled, bodies, first, place, itemEnd};
 
 // The place behind the item at `at`, or 0 where no whole item stands there.
@@ -54,15 +55,15 @@ pub fn count_of(t: u8, s: &[u8]) -> usize
     n
 }
 
-// The body of the first item of type t; empty where there is none.
+// The body of the first item of type t; where there is none, the empty part at the place where the items end.
 pub fn first_of(t: u8, s: &[u8]) -> &[u8]
-    ensures { λ r. ⌜ now r ≡ first (bodies t (walk (now (s .entry)))) ⌝ }
+    ensures { λ r. ⌜ PartOf (s .entry) (place t (walk (now (s .entry)))) (first (bodies t (walk (now (s .entry))))) r ⌝ }
 {
     let mut at = 0;
     while at < s.len() {
         let e = item_end(s, at);
         if e == 0 {
-            return &s[0..0];
+            return &s[at..at];
         }
         if s[at] == t {
             let b = at + 4;
@@ -70,7 +71,7 @@ pub fn first_of(t: u8, s: &[u8]) -> &[u8]
         }
         at = e;
     }
-    &s[0..0]
+    &s[at..at]
 }
 
 // The place of that body; where there is none, the place where the items end.

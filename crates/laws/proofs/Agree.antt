@@ -5,6 +5,7 @@ use Prim.Native.Nat.{ℕ}
 use mathlib.Core.Path.{_≡_, sym, _∙_}
 use mathlib.Core.List.{List}
 use contract.Lifetimes.{Lfts}
+use denote.Ref.{RefT, ptr, now}
 use denote.Triple.Clauses.{AtExit}
 use borrow.Fn.Kinds.{PK, RK, Dens, resT, endedOf, Out}
 
@@ -20,6 +21,12 @@ abbrev pub AgreesLent : {L : Type 0} (n : ℕ) (ps : List (PK n)) (r : RK n) →
 AgreesLent n ps r Post left =
     (κs : Lfts n) (args : Dens κs ps) (a b : resT r κs .Denot) (x y : AtExit (endedOf n ps r) κs)
     → Post κs args a x → Post κs args b y → (a ≡ b) × (left κs x ≡ left κs y)
+
+-- the same for a slice that is handed back: where it lies and its contents, all but the ghost name under which they are tracked
+abbrev pub AgreesPart : {X : Type 0} (n : ℕ) (ps : List (PK n)) (r : RK n) → Out n ps r → ((κs : Lfts n) → resT r κs .Denot → RefT X) → Type 0
+AgreesPart n ps r Post part =
+    (κs : Lfts n) (args : Dens κs ps) (a b : resT r κs .Denot) (x y : AtExit (endedOf n ps r) κs)
+    → Post κs args a x → Post κs args b y → (ptr (part κs a) ≡ ptr (part κs b)) × (now (part κs a) ≡ now (part κs b))
 
 -- what a contract permits at given arguments: a call that was given them has this answer, and leaves this in what it was lent
 abbrev pub Gives : (n : ℕ) (ps : List (PK n)) (r : RK n)

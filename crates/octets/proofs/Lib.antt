@@ -1,3 +1,4 @@
 pub mod OctetLaws
 pub mod PutLaws
+pub mod SliceLaws
 pub mod Agree

@@ -1,2 +1,3 @@
 pub mod Octets
 pub mod Put
+pub mod Slice

@@ -1,11 +1,8 @@
--- Any two permitted answers agree, for each public function, and so do the contents of the lent sheet.
+-- Any two permitted answers agree, for each public function, and so do the contents of the lent sheet; of a slice that is handed back, where it lies and its bytes.
 -- Assumes nothing.
-use mathlib.Core.Path.{_≡_}
-use contract.Lifetimes.{Lfts}
 use denote.Ref.{now}
-use denote.Triple.Clauses.{AtExit}
-use borrow.Fn.Kinds.{Dens, resT, endedOf}
-use Rattle.laws.proofs.Agree.{agree, Agrees, AgreesLent}
+use Rattle.laws.proofs.Agree.{agree, Agrees, AgreesLent, AgreesPart}
+use Rattle.octets.proofs.SliceLaws.{parts-agree}
 use Rattle.reading.proofs.associate.read_request as read-request
 use Rattle.reading.proofs.associate.read_accept as read-accept
 use Rattle.reading.proofs.values.read_reject as read-reject
@@ -28,7 +25,5 @@ read-abort-agrees κs args a b x y p q = agree p q
 pub read-data-agrees : Agrees 1 read-data.Kinds.ps read-data.Kinds.r read-data.Reads.Post
 read-data-agrees κs args a b x y p q = agree p q
 
--- of the part that is handed back, the bytes agree; where it starts and how long it is says read_data
-pub fragment-agrees : (κs : Lfts 1) (args : Dens κs fragment.Kinds.ps) (a b : resT fragment.Kinds.r κs .Denot) (x y : AtExit (endedOf 1 fragment.Kinds.ps fragment.Kinds.r) κs)
-    → fragment.Reads.Post κs args a x → fragment.Reads.Post κs args b y → now a ≡ now b
-fragment-agrees κs args a b x y p q = agree p q
+pub fragment-agrees : AgreesPart 1 fragment.Kinds.ps fragment.Kinds.r fragment.Reads.Post (λ κs a. a)
+fragment-agrees κs args a b x y p q = parts-agree p q

@@ -15,6 +15,7 @@ use mir.Val.{Fits}
 use mir.Syntax.{w64}
 use Rattle.laws.proofs.Booleans.{left-of, right-of}
 use Rattle.laws.proofs.Places.{part-tail}
+use Rattle.octets.proofs.SliceLaws.{place-from}
 use Rattle.pdvs.specs.Data.{Pdv, pdvs, size, pdvEnd}
 use Rattle.judging.specs.Pdu.{kindOf}
 use Rattle.pdvs.proofs.DataLaws.{pdvAt, PdvItem, pdv-more, pdv-stop, pdv-from, pdv-to, pdv-id, pdv-control, pdv-fits-4, pdv-fits-5, pdv-fits-6, pdv-walking}
@@ -238,10 +239,15 @@ pub data-over : (x : List ℕ) (n : ℕ) → kindOf x ≡ 4 → length (pdvsOf x
 unfolding dataOf
 data-over x n v h = rw (v, le-ltb n (length (pdvsOf x)) h)
 
--- nothing is handed back by a refusal
-pub fragment-refused : (x : List ℕ) (n : ℕ) → dataOf x n .len ≡ 0 → fragmentOf x n ≡ []
-unfolding fragmentOf
-fragment-refused x n e = rw e
+-- nothing is handed back by a refusal: the empty part at place 0
+pub fragment-refused : (x : List ℕ) (n : ℕ) → (dataOf x n .refusal ≡ 0 → ⊥) → (dataOf x n .start ≡ 0) × (fragmentOf x n ≡ [])
+unfolding fragmentOf dataOf
+fragment-refused x n r = go (eqb (kindOf x) 4) refl (ltb n (length (pdvsOf x))) refl
+  where
+    go : (a : Bool) → eqb (kindOf x) 4 ≡ a → (b : Bool) → ltb n (length (pdvsOf x)) ≡ b → (dataOf x n .start ≡ 0) × (fragmentOf x n ≡ [])
+    go false p b q = (rw p, rw p)
+    go true p false q = (rw (p, q), rw (p, q))
+    go true p true q = absurd (r (rw (p, q)))
 
 -- ---- `fragment`
 inside : (x : List ℕ) (n : ℕ) → dataOf x n .start + dataOf x n .len ≤ length x
@@ -264,4 +270,7 @@ module _ (x : List ℕ) (n : ℕ) (d : DataRead) (p : d ≡ dataOf x n) where
   unfolding fragmentOf
   part-is = let z : d .start + d .len - d .start ≡ d .len = omega arith in rw (z, p)
 
-pub ruleset part-laws = (needs, part-within, part-fits, part-is)
+  pub part-start : d .start ≡ dataOf x n .start
+  part-start = rw p
+
+pub ruleset part-laws = (needs, part-within, part-fits, part-is, part-start, place-from)

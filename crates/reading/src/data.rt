@@ -1,6 +1,7 @@
 // Reading a PDV by its number.
 ghost use mathlib.Core.Path.{_≡_};
 ghost use lib.ListN.{take};
+ghost use Rattle.octets.specs.Slice.{PartOf};
 ghost use Rattle.pdvs.specs.Data.{pdvs, size};
 ghost use Rattle.reading.specs.Data.{dataOf, fragmentOf};
 
@@ -66,7 +67,7 @@ pub fn read_data(pdu: &[u8], number: usize) -> DataRead
 
 // The fragment's own part of the PDU; empty where read_data refuses.
 pub fn fragment(pdu: &[u8], number: usize) -> &[u8]
-    ensures { λ r. ⌜ now r ≡ fragmentOf (now (pdu .entry)) number ⌝ }
+    ensures { λ r. ⌜ PartOf (pdu .entry) (dataOf (now (pdu .entry)) number .start) (fragmentOf (now (pdu .entry)) number) r ⌝ }
 {
     let d = read_data(pdu, number);
     let start = d.start;

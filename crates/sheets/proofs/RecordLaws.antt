@@ -12,10 +12,13 @@ use lib.Dec.{leb}
 use borrow.Author.Needs.{needs}
 use borrow.Author.Tests.{le-leb, lt-leb, eq-eqb, ne-eqb, leb-true}
 use Rattle.laws.specs.Lists.{sameBytes}
+use denote.Ref.{RefT, now}
 use Rattle.octets.specs.Put.{put, Placed}
+use Rattle.octets.specs.Slice.{PartOf}
 use Rattle.octets.proofs.PutLaws.{put-out, put-length}
+use Rattle.octets.proofs.SliceLaws.{part-of-part, place-from}
 use Rattle.sheets.specs.Sheet.{field, recordBytes, cap, abstractOf, transferOf}
-use Rattle.sheets.specs.Record.{recordOf, recordAt, abstractAt, transferAt, goesOnAt}
+use Rattle.sheets.specs.Record.{recordOf, recordAt, abstractAt, transferAt, nameStart, goesOnAt}
 
 -- ---- `fill_record`: names put into zeros
 
@@ -152,6 +155,14 @@ module _ (s : List ℕ) (at : ℕ) where
   transfer-here h = simp (le-leb (at + 132) (length s) h)
 
   -- none stands there
+  pub start-none : (k : ℕ) → length s < 132 → 0 ≡ nameStart s at k
+  unfolding nameStart
+  start-none k h = simp (lt-leb (at + 132) (length s) (omega arith))
+
+  pub start-past : (k : ℕ) → 132 ≤ length s → length s - 132 < at → 0 ≡ nameStart s at k
+  unfolding nameStart
+  start-past k h l = simp (lt-leb (at + 132) (length s) (omega arith))
+
   pub abstract-none : length s < 132 → take (0 - 0) (drop 0 s) ≡ abstractAt s at
   unfolding abstractAt
   abstract-none h = simp (lt-leb (at + 132) (length s) (omega arith))
@@ -168,14 +179,19 @@ module _ (s : List ℕ) (at : ℕ) where
   unfolding transferAt
   transfer-past h l = simp (lt-leb (at + 132) (length s) (omega arith))
 
-  module _ (r x : List ℕ) (h : 132 ≤ length s) (l : at ≤ length s - 132) (e : r ≡ recordAt s at) where
-    pub abstract-found : x ≡ abstractOf r → x ≡ abstractAt s at
-    abstract-found p = p ∙ (ap abstractOf e ∙ sym (abstract-here (omega arith)))
+-- a name of a whole record, as a part of the record's own part
+module _ (s r x : RefT (List ℕ)) (at : ℕ) (h : 132 ≤ length (now s)) (l : at ≤ length (now s) - 132) (e : PartOf s at (recordAt (now s) at) r) where
+  start-found : (k : ℕ) → at + k ≡ nameStart (now s) at k
+  unfolding nameStart
+  start-found k = simp (le-leb (at + 132) (length (now s)) (omega arith))
 
-    pub transfer-found : x ≡ transferOf r → x ≡ transferAt s at
-    transfer-found p = p ∙ (ap transferOf e ∙ sym (transfer-here (omega arith)))
+  pub abstract-found : PartOf r 4 (abstractOf (now r)) x → PartOf s (nameStart (now s) at 4) (abstractAt (now s) at) x
+  abstract-found p = rw (← start-found 4, abstract-here (now s) at (omega arith), ← e .bytes) (part-of-part e p)
 
-pub ruleset at-laws = (needs, abstract-none, abstract-past, transfer-none, transfer-past, abstract-found, transfer-found)
+  pub transfer-found : PartOf r 68 (transferOf (now r)) x → PartOf s (nameStart (now s) at 68) (transferAt (now s) at) x
+  transfer-found p = rw (← start-found 68, transfer-here (now s) at (omega arith), ← e .bytes) (part-of-part e p)
+
+pub ruleset at-laws = (needs, abstract-none, abstract-past, transfer-none, transfer-past, start-none, start-past, place-from, abstract-found, transfer-found)
 
 -- ---- `goes_on`
 module _ (s : List ℕ) (at : ℕ) where

@@ -21,6 +21,10 @@ abstractAt s at = cond (leb (at + 132) (length s)) (abstractOf (recordAt s at)) 
 unfoldable pub transferAt : List ℕ → ℕ → List ℕ
 transferAt s at = cond (leb (at + 132) (length s)) (transferOf (recordAt s at)) []
 
+-- where the name that stands k bytes into that record starts in the sheet, 0 where no whole record stands there
+unfoldable pub nameStart : List ℕ → ℕ → ℕ → ℕ
+nameStart s at k = cond (leb (at + 132) (length s)) (at + k) 0
+
 -- the record behind the one at a place goes on its run: "equal ID and abstract name"
 unfoldable pub goesOnAt : List ℕ → ℕ → Bool
 goesOnAt s at = cond (leb (at + 132 + 132) (length s)) (eqb (getD s at 0) (getD s (at + 132) 0) && sameBytes (abstractAt s at) (abstractAt s (at + 132))) false

@@ -2,8 +2,9 @@
 ghost use mathlib.Core.Path.{_≡_};
 ghost use Prim.Native.Nat.{_+_, _≤_};
 ghost use lib.ListN.{length, take};
+ghost use Rattle.octets.specs.Slice.{PartOf};
 ghost use Rattle.sheets.specs.Sheet.{recordBytes, cap, abstractOf, transferOf};
-ghost use Rattle.sheets.specs.Record.{recordOf, recordAt, abstractAt, transferAt, goesOnAt};
+ghost use Rattle.sheets.specs.Record.{recordOf, recordAt, abstractAt, transferAt, nameStart, goesOnAt};
 
 fn fill_record(id: u8, result: u8, a: &[u8], x: &[u8]) -> [u8; 132]
     requires { ⌜ (length (now a) ≤ 64) × (length (now x) ≤ 64) ⌝ }
@@ -39,7 +40,7 @@ pub fn record_of(id: u8, result: u8, a: &[u8], x: &[u8]) -> [u8; 132]
 // The record that starts at a place.
 pub(crate) fn record_at(s: &[u8], at: usize) -> &[u8]
     requires { ⌜ at + 132 ≤ length (now s) ⌝ }
-    ensures { λ r. ⌜ (now r ≡ recordAt (now (s .entry)) at) × (length (now r) ≡ 132) ⌝ }
+    ensures { λ r. ⌜ PartOf (s .entry) at (recordAt (now (s .entry)) at) r × (length (now r) ≡ 132) ⌝ }
 {
     let e = at + 132;
     &s[at..e]
@@ -56,7 +57,7 @@ fn cap_of(n: u8) -> usize
 
 pub(crate) fn abstract_of(r: &[u8]) -> &[u8]
     requires { ⌜ length (now r) ≡ 132 ⌝ }
-    ensures { λ x. ⌜ now x ≡ abstractOf (now (r .entry)) ⌝ }
+    ensures { λ x. ⌜ PartOf (r .entry) 4 (abstractOf (now (r .entry))) x ⌝ }
 {
     let e = 4 + cap_of(r[2]);
     &r[4..e]
@@ -64,15 +65,15 @@ pub(crate) fn abstract_of(r: &[u8]) -> &[u8]
 
 pub(crate) fn transfer_of(r: &[u8]) -> &[u8]
     requires { ⌜ length (now r) ≡ 132 ⌝ }
-    ensures { λ x. ⌜ now x ≡ transferOf (now (r .entry)) ⌝ }
+    ensures { λ x. ⌜ PartOf (r .entry) 68 (transferOf (now (r .entry))) x ⌝ }
 {
     let e = 68 + cap_of(r[3]);
     &r[68..e]
 }
 
-// The abstract name of the record at a place; empty where no whole record starts there.
+// The abstract name of the record at a place, its own part of the sheet; the empty part at 0 where no whole record starts there.
 pub fn abstract_at(s: &[u8], at: usize) -> &[u8]
-    ensures { λ r. ⌜ now r ≡ abstractAt (now (s .entry)) at ⌝ }
+    ensures { λ r. ⌜ PartOf (s .entry) (nameStart (now (s .entry)) at 4) (abstractAt (now (s .entry)) at) r ⌝ }
 {
     if s.len() < 132 {
         return &s[0..0];
@@ -83,9 +84,9 @@ pub fn abstract_at(s: &[u8], at: usize) -> &[u8]
     abstract_of(record_at(s, at))
 }
 
-// The transfer name of the record at a place; empty where no whole record starts there.
+// The transfer name of the record at a place, its own part of the sheet; the empty part at 0 where no whole record starts there.
 pub fn transfer_at(s: &[u8], at: usize) -> &[u8]
-    ensures { λ r. ⌜ now r ≡ transferAt (now (s .entry)) at ⌝ }
+    ensures { λ r. ⌜ PartOf (s .entry) (nameStart (now (s .entry)) at 68) (transferAt (now (s .entry)) at) r ⌝ }
 {
     if s.len() < 132 {
         return &s[0..0];

@@ -1,22 +1,26 @@
 -- The round trip over the calls themselves, for all seven: what a writer's contract permits it to send, a reader's contract reads back as the same fields.
 -- Assumes nothing.
-use Prim.Native.Nat.{ℕ}
+use Prim.Native.Nat.{ℕ, _+_}
+use native.Mathlib.Omega.{arith}
 use mathlib.Core.Path.{_≡_, sym, ap, _∙_}
-use mathlib.Core.List.{List}
+use mathlib.Core.List.{List, []}
 use lib.ListN.{length, take, drop}
-use denote.Ref.{now}
+use denote.Ref.{RefT, ptr, now}
 use Rattle.octets.specs.Put.{front}
+use Rattle.octets.specs.Slice.{PartOf}
 use Rattle.octets.proofs.PutLaws.{front-start, front-behind}
 use Rattle.judging.specs.Pdu.{kindOf}
 use Rattle.reading.specs.Associate.{associateOf, filling, Read}
 use Rattle.reading.specs.Values as values
 use Rattle.reading.specs.Data.{dataOf, fragmentOf}
 use Rattle.reading.specs.declared.associate.Associate.{Associate}
+use Rattle.reading.specs.declared.data.DataRead.{DataRead}
+use Rattle.reading.proofs.DataLaws.{fragment-refused}
 use Rattle.writing.specs.Fields.{rqOf, acOf, rejectOf, itemsOf, abortOf}
 use Rattle.writing.specs.Form.{Form, refusalOf, sentBytes, sentOf, Wrote, rqForm, acForm, rejectForm, dataForm, releaseRqForm, releaseRpForm, abortForm}
 use Rattle.writing.specs.declared.Sent.{Sent}
 use Rattle.writing.proofs.FormLaws.{refusal-is}
-use Rattle.trips.specs.Trips.{readOf, RqTrip, AcTrip, RejectTrip, DataTrip, AbortTrip}
+use Rattle.trips.specs.Trips.{readOf, pastLast, RqTrip, AcTrip, RejectTrip, DataTrip, AbortTrip}
 use Rattle.trips.specs.Calls.{WriteRequest, WriteAccept, WriteReject, WriteData, WriteReleaseRequest, WriteReleaseResponse, WriteAbort, sentIn, Judged, SameFields, RequestBack, AcceptBack, RejectBack, AbortBack, DataBack}
 use Rattle.trips.proofs.SentTrip.{sent-rq, sent-ac, sent-reject, sent-data, sent-release-rq, sent-release-rp, sent-abort}
 
@@ -41,6 +45,19 @@ module _ (kind : ℕ) (application sheet pdu q s s′ : List ℕ) (r : Associate
       let e : r ≡ readOf application sheet = p .answer ∙ (ap (λ (x : List ℕ). associateOf kind x (length s)) g ∙ a) in
       let t : s′ ≡ front s sheet = p .sheet ∙ (ap (λ (x : List ℕ). front s (filling kind x (length s))) g ∙ ap (front s) b) in
       record { answer = e; name = rw e n; start = rw t (front-start s sheet); behind = rw t (front-behind s sheet) }
+
+-- the part that `fragment` hands back
+part-is : (s r : RefT (List ℕ)) (pdu : List ℕ) (n : ℕ) {at : ℕ} {bs : List ℕ} → now s ≡ pdu → PartOf s (dataOf (now s) n .start) (fragmentOf (now s) n) r
+    → dataOf pdu n .start ≡ at → fragmentOf pdu n ≡ bs → PartOf s at bs r
+part-is s r pdu n g p a b =
+    record {
+      block = p .block;
+      place = p .place ∙ ap (λ (k : ℕ). ptr s .1 + k) (ap (λ (x : List ℕ). dataOf x n .start) g ∙ a);
+      bytes = p .bytes ∙ (ap (λ (x : List ℕ). fragmentOf x n) g ∙ b);
+    }
+
+none-past : (pdu : List ℕ) (n : ℕ) → dataOf pdu n ≡ pastLast → fragmentOf pdu n ≡ []
+none-past pdu n e = fragment-refused pdu n (λ z. let w : _≡_ {A = ℕ} 4 0 = ap (λ (x : DataRead). x .refusal) (sym e) ∙ z in omega arith) .1
 
 -- ---- the seven
 pub request-call : (c : WriteRequest) → c .answer .refusal ≡ 0
@@ -90,7 +107,8 @@ data-call c z =
       kind = judged pdu 4 (t .kind);
       read = λ d g h. d .permitted ∙ (ap (λ (x : List ℕ). dataOf x (d .given .1 .0)) g ∙ t .read (d .given .1 .0) h);
       past = λ d g h. d .permitted ∙ (ap (λ (x : List ℕ). dataOf x (d .given .1 .0)) g ∙ t .past (d .given .1 .0) h);
-      own = λ d g h. d .permitted ∙ (ap (λ (x : List ℕ). fragmentOf x (d .given .1 .0)) g ∙ t .fragment (d .given .1 .0) h);
+      own = λ d g h. part-is (d .given .0) (d .answer) pdu (d .given .1 .0) g (d .permitted) (ap (λ (x : DataRead). x .start) (t .read (d .given .1 .0) h)) (t .fragment (d .given .1 .0) h);
+      none = λ d g h. part-is (d .given .0) (d .answer) pdu (d .given .1 .0) g (d .permitted) (ap (λ (x : DataRead). x .start) (t .past (d .given .1 .0) h)) (none-past pdu (d .given .1 .0) (t .past (d .given .1 .0) h));
     }
 
 pub release-request-call : (c : WriteReleaseRequest) → c .answer .refusal ≡ 0 → Judged (sentIn (c .answer) (now (c .left .0))) 5

@@ -1,16 +1,17 @@
 -- The round trip over the calls themselves: whatever a writer's contract permits it to send, whatever a reader's contract permits it to answer of those bytes is the same fields.
 use Prim.Native.Nat.{ℕ, _≤_, _<_}
 use mathlib.Core.Path.{_≡_}
-use mathlib.Core.List.{List}
+use mathlib.Core.List.{List, []}
 use lib.ListN.{length, take, drop}
 use contract.Lifetimes.{Lfts}
 use denote.Ref.{now}
 use denote.Triple.Clauses.{AtExit}
 use borrow.Fn.Kinds.{PK, RK, Dens, resT, endedOf, Out}
+use Rattle.octets.specs.Slice.{PartOf}
 use Rattle.pdvs.specs.Data.{pdvs}
 use Rattle.judging.specs.Pdu.{calledOf, callingOf}
 use Rattle.judging.proofs.kind_of as kind-of
-use Rattle.reading.specs.Data.{pdv}
+use Rattle.reading.specs.Data.{pdv, startOf}
 use Rattle.reading.specs.declared.associate.Associate.{Associate}
 use Rattle.reading.proofs.read_request as read-request
 use Rattle.reading.proofs.read_accept as read-accept
@@ -131,9 +132,11 @@ pub record AbortBack (f : Abort) (pdu : List ℕ) : Type 0 where
   pub kind : Judged pdu 7
   pub read : (c : ReadAbort) → now (c .given .0) ≡ pdu → c .answer ≡ record { refusal = 0; source = f .source; reason = f .reason }
 
--- as a P-DATA-TF of the items f
+-- as a P-DATA-TF of the items f: each PDV by its number, its fragment the caller's own part; refusal 4 and the empty part past the last
 pub record DataBack (f : Items) (pdu : List ℕ) : Type 0 where
   pub kind : Judged pdu 4
   pub read : (c : ReadData) → now (c .given .0) ≡ pdu → c .given .1 .0 < length (pdvs (f .items)) → c .answer ≡ pdvRead (pdvs (f .items)) (c .given .1 .0)
   pub past : (c : ReadData) → now (c .given .0) ≡ pdu → length (pdvs (f .items)) ≤ c .given .1 .0 → c .answer ≡ pastLast
-  pub own : (c : Fragment) → now (c .given .0) ≡ pdu → c .given .1 .0 < length (pdvs (f .items)) → now (c .answer) ≡ pdv (pdvs (f .items)) (c .given .1 .0) .fragment
+  pub own : (c : Fragment) → now (c .given .0) ≡ pdu → c .given .1 .0 < length (pdvs (f .items))
+      → PartOf (c .given .0) (startOf (pdvs (f .items)) (c .given .1 .0)) (pdv (pdvs (f .items)) (c .given .1 .0) .fragment) (c .answer)
+  pub none : (c : Fragment) → now (c .given .0) ≡ pdu → length (pdvs (f .items)) ≤ c .given .1 .0 → PartOf (c .given .0) 0 [] (c .answer)

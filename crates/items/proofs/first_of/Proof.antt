@@ -1,14 +1,12 @@
 -- `items::first_of` meets its contract. Assumes nothing.
 use Prim.Native.Nat.{_-_}
-use lib.ListN.{length, drop}
-use mathlib.Core.Path.{_≡_}
-use Rattle.items.specs.Items.{walk, bodies, first}
-use Rattle.items.proofs.ItemLaws.{first-laws}
+use lib.ListN.{length}
+use Rattle.items.proofs.ItemLaws.{Seeking, first-laws}
 use Rattle.items.proofs.first_of.Statement.{statement}
 use Rattle.items.proofs.first_of.Tie as tie
 
 abbrev Inv-loop : tie.InvT-loop
-Inv-loop t s at₀ at = first (bodies t (walk s)) ≡ first (bodies t (walk (drop at s)))
+Inv-loop t s at₀ at = Seeking t s at
 
 abbrev μ-loop : tie.MeasureT-loop
 μ-loop t s at₀ at = length s - at
