@@ -3,12 +3,16 @@
 use Prim.Native.Nat.{ℕ, _+_}
 use native.Mathlib.Omega.{arith}
 use mathlib.Core.Path.{_≡_, sym, ap, _∙_}
-use mathlib.Core.List.{List, []}
+use mathlib.Core.Bool.{true}
+use mathlib.Core.List.{List, [], map}
 use lib.ListN.{length, take, drop}
 use denote.Ref.{RefT, ptr, now}
+use Rattle.laws.specs.Lists.{all, joined}
 use Rattle.octets.specs.Put.{front}
 use Rattle.octets.specs.Slice.{PartOf}
 use Rattle.octets.proofs.PutLaws.{front-start, front-behind}
+use Rattle.pdvs.specs.Data.{Pdv, pdvs, pdvBytes, pdvFits}
+use Rattle.pdvs.proofs.Back.{pdvs-of-bytes}
 use Rattle.judging.specs.Pdu.{kindOf}
 use Rattle.reading.specs.Associate.{associateOf, filling, Read}
 use Rattle.reading.specs.Values as values
@@ -97,7 +101,7 @@ reject-call c z =
     let t = holds (rejectForm f) o (c .answer) (now (c .left .1 .1 .1 .0)) (c .permitted) (RejectTrip f) (sent-reject (length o) f) z in
     record { kind = judged pdu 3 (t .kind); read = λ d g. d .permitted ∙ (ap values.rejectOf g ∙ t .read) }
 
-pub data-call : (c : WriteData) → c .answer .refusal ≡ 0 → DataBack (itemsOf (now (c .given .0))) (sentIn (c .answer) (now (c .left .1 .1 .0)))
+pub data-call : (c : WriteData) → c .answer .refusal ≡ 0 → DataBack (pdvs (now (c .given .0))) (sentIn (c .answer) (now (c .left .1 .1 .0)))
 data-call c z =
     let f = itemsOf (now (c .given .0)) in
     let o = now (c .given .1 .1 .0) in
@@ -110,6 +114,11 @@ data-call c z =
       own = λ d g h. part-is (d .given .0) (d .answer) pdu (d .given .1 .0) g (d .permitted) (ap (λ (x : DataRead). x .start) (t .read (d .given .1 .0) h)) (t .fragment (d .given .1 .0) h);
       none = λ d g h. part-is (d .given .0) (d .answer) pdu (d .given .1 .0) g (d .permitted) (ap (λ (x : DataRead). x .start) (t .past (d .given .1 .0) h)) (none-past pdu (d .given .1 .0) (t .past (d .given .1 .0) h));
     }
+
+-- items that are the bytes of PDVs: these PDVs
+pub pdvs-call : (ps : List Pdv) → all pdvFits ps ≡ true → (c : WriteData) → now (c .given .0) ≡ joined (map pdvBytes ps) → c .answer .refusal ≡ 0
+    → DataBack ps (sentIn (c .answer) (now (c .left .1 .1 .0)))
+pdvs-call ps h c g z = let e : pdvs (now (c .given .0)) ≡ ps = ap pdvs g ∙ pdvs-of-bytes ps h in rw e at (data-call c z)
 
 pub release-request-call : (c : WriteReleaseRequest) → c .answer .refusal ≡ 0 → Judged (sentIn (c .answer) (now (c .left .0))) 5
 release-request-call c z =

@@ -8,7 +8,7 @@ use denote.Ref.{now}
 use denote.Triple.Clauses.{AtExit}
 use borrow.Fn.Kinds.{PK, RK, Dens, resT, endedOf, Out}
 use Rattle.octets.specs.Slice.{PartOf}
-use Rattle.pdvs.specs.Data.{pdvs}
+use Rattle.pdvs.specs.Data.{Pdv}
 use Rattle.judging.specs.Pdu.{calledOf, callingOf}
 use Rattle.judging.proofs.kind_of as kind-of
 use Rattle.reading.specs.Data.{pdv, startOf}
@@ -19,7 +19,7 @@ use Rattle.reading.proofs.read_reject as read-reject
 use Rattle.reading.proofs.read_abort as read-abort
 use Rattle.reading.proofs.read_data as read-data
 use Rattle.reading.proofs.fragment as fragment
-use Rattle.writing.specs.Fields.{RqFields, AcFields, Reject, Items, Abort}
+use Rattle.writing.specs.Fields.{RqFields, AcFields, Reject, Abort}
 use Rattle.writing.specs.declared.Sent.{Sent}
 use Rattle.writing.proofs.write_reject as write-reject
 use Rattle.writing.proofs.write_data as write-data
@@ -132,11 +132,10 @@ pub record AbortBack (f : Abort) (pdu : List ℕ) : Type 0 where
   pub kind : Judged pdu 7
   pub read : (c : ReadAbort) → now (c .given .0) ≡ pdu → c .answer ≡ record { refusal = 0; source = f .source; reason = f .reason }
 
--- as a P-DATA-TF of the items f: each PDV by its number, its fragment the caller's own part; refusal 4 and the empty part past the last
-pub record DataBack (f : Items) (pdu : List ℕ) : Type 0 where
+-- as a P-DATA-TF of the PDVs ps: each by its number, its fragment the caller's own part; refusal 4 and the empty part past the last
+pub record DataBack (ps : List Pdv) (pdu : List ℕ) : Type 0 where
   pub kind : Judged pdu 4
-  pub read : (c : ReadData) → now (c .given .0) ≡ pdu → c .given .1 .0 < length (pdvs (f .items)) → c .answer ≡ pdvRead (pdvs (f .items)) (c .given .1 .0)
-  pub past : (c : ReadData) → now (c .given .0) ≡ pdu → length (pdvs (f .items)) ≤ c .given .1 .0 → c .answer ≡ pastLast
-  pub own : (c : Fragment) → now (c .given .0) ≡ pdu → c .given .1 .0 < length (pdvs (f .items))
-      → PartOf (c .given .0) (startOf (pdvs (f .items)) (c .given .1 .0)) (pdv (pdvs (f .items)) (c .given .1 .0) .fragment) (c .answer)
-  pub none : (c : Fragment) → now (c .given .0) ≡ pdu → length (pdvs (f .items)) ≤ c .given .1 .0 → PartOf (c .given .0) 0 [] (c .answer)
+  pub read : (c : ReadData) → now (c .given .0) ≡ pdu → c .given .1 .0 < length ps → c .answer ≡ pdvRead ps (c .given .1 .0)
+  pub past : (c : ReadData) → now (c .given .0) ≡ pdu → length ps ≤ c .given .1 .0 → c .answer ≡ pastLast
+  pub own : (c : Fragment) → now (c .given .0) ≡ pdu → c .given .1 .0 < length ps → PartOf (c .given .0) (startOf ps (c .given .1 .0)) (pdv ps (c .given .1 .0) .fragment) (c .answer)
+  pub none : (c : Fragment) → now (c .given .0) ≡ pdu → length ps ≤ c .given .1 .0 → PartOf (c .given .0) 0 [] (c .answer)
