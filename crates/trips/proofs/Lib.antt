@@ -5,6 +5,5 @@ pub mod RqTrip
 pub mod AcTrip
 pub mod SmallTrip
 pub mod SentTrip
-pub mod MetTrip
 pub mod Share
 pub mod Again
