@@ -11,8 +11,8 @@ use Rattle.octets.specs.Put.{put, front}
 use Rattle.names.specs.Name.{nameOk}
 use Rattle.titles.specs.Title.{titleOk, trimEnd, titlesEqual}
 use Rattle.names.proofs.NameLaws.{name-long}
-use Rattle.items.specs.Items.{step, walkIn, walk, filled, bodies, keeps}
-use Rattle.contents.specs.Contents.{subGood, subNext, good20H, one, good50H, contextGood, topGood, topNext, ids, itemsOk, maximumIn}
+use Rattle.items.specs.Items.{step, walkIn, walk, filled, bodies, types, only, goodBodies, holds}
+use Rattle.contents.specs.Contents.{subsOk, good20H, one, userGood, good50H, contextGood, topGood, topOk, ids, itemsOk, maximumIn}
 use Rattle.pdvs.specs.Data.{pdvStep, pdvsIn, pdvs, pdvOk, pdvsOk}
 use Rattle.reasons.specs.Values.{abortOk}
 use Rattle.judging.specs.Pdu.{whole, requestOk, dataOk, releaseOk, abortPduOk, validAs, kindOf, acceptable, maximumOf}
@@ -30,5 +30,5 @@ use Rattle.association.specs.Calls.{receiveRefusal, heard, receiveOf}
 use Rattle.cases.specs.Cases.{Row, cases, gives}
 
 pub both-sides : (map (λ (r : Row). gives (r .asked)) cases ≡ map (λ (r : Row). r .answered) cases) × ((s : List ℕ) → 64 < length s → nameOk s ≡ false)
-unfolding cases receiveOf receiveRefusal heard recordRefusal broken clauses strayState overfull strayDeaf mistimed badLength markedIdle timed dropping eng.receive frame lengthField be32 be16 put front onEvent doing eventOf eventOfKind after entering requestorAfter peerAt acceptsAt abortFor tenBy tenOf tens table cellOf actions doesOf nextOf showsOf artimOf kindOf acceptable maximumOf whole validAs requestOk dataOk releaseOk abortPduOk abortOk pdvStep pdvsIn pdvs pdvOk pdvsOk subGood subNext good20H one good50H contextGood topGood topNext ids itemsOk maximumIn step walkIn walk filled bodies keeps nameOk titleOk trimEnd titlesEqual among distinct
+unfolding cases receiveOf receiveRefusal heard recordRefusal broken clauses strayState overfull strayDeaf mistimed badLength markedIdle timed dropping eng.receive frame lengthField be32 be16 put front onEvent doing eventOf eventOfKind after entering requestorAfter peerAt acceptsAt abortFor tenBy tenOf tens table cellOf actions doesOf nextOf showsOf artimOf kindOf acceptable maximumOf whole validAs requestOk dataOk releaseOk abortPduOk abortOk pdvStep pdvsIn pdvs pdvOk pdvsOk subsOk good20H one userGood good50H contextGood topGood topOk ids itemsOk maximumIn step walkIn walk filled bodies types only goodBodies holds nameOk titleOk trimEnd titlesEqual among distinct
 both-sides = (refl, name-long)

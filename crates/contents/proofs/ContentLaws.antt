@@ -1,39 +1,54 @@
 -- The tests of a body: what `search` needs beside the laws of tests.
 -- Assumes nothing.
 use Prim.Native.Nat.{ℕ, _-_}
-use mathlib.Core.Bool.{Bool}
+use mathlib.Core.Bool.{Bool, true}
 use mathlib.Core.List.{List}
-use mathlib.Core.Path.{_≡_, _∙_, ap}
+use mathlib.Core.Path.{_≡_, sym, _∙_, ap}
 use lib.ListN.{length, take, drop}
 use lib.Dec.{eqb}
 use borrow.Author.Needs.{needs}
 use Rattle.laws.proofs.Places.{part-tail}
-use Rattle.laws.proofs.Tests.{deciding, follow}
+use Rattle.laws.proofs.Tests.{deciding}
 use Rattle.octets.specs.Octets.{be32}
 use Rattle.names.specs.Name.{nameOk}
-use Rattle.items.specs.Items.{walk, bodies, first, keeps}
-use Rattle.contents.specs.Contents.{subRule, transferOk, maximumIn}
+use Rattle.items.specs.Items.{Walk, walk, bodies, first, goodBodies}
+use Rattle.items.specs.Inner.{keeps}
+use Rattle.items.proofs.RuleLaws.{keeping}
+use Rattle.contents.specs.Contents.{answerKnown, userKnown, named, one, subsOk, transferOk, userGood, topOk, maximumIn}
+use Rattle.contents.specs.Inner.{subRule, topRule}
+use Rattle.contents.proofs.OrderLaws.{sub-is, top-is}
+use Rattle.contents.proofs.GoodLaws.{one-good}
 
--- ---- an answer that tests a count, or a name that was handed out
+-- ---- an answer that tests a count, and what the one body is tested for
 pub eqb-is : (r x y : ℕ) → r ≡ x → eqb r y ≡ eqb x y
 eqb-is r x y p = rw p
 
-pub long-is : (r x : List ℕ) (y : ℕ) → r ≡ x → eqb (length r) y ≡ eqb (length x) y
-long-is r x y p = rw p
+pub transfer-is : (r : Bool) (x : List ℕ) (w : Walk) → one 0x40 w ≡ true → x ≡ first (bodies 0x40 w) → r ≡ nameOk x → r ≡ goodBodies answerKnown named w
+transfer-is r x w o p q = q ∙ (ap nameOk p ∙ one-good 0x40 w o named)
 
-pub named-is : (r : Bool) (x y : List ℕ) → x ≡ y → r ≡ nameOk x → r ≡ nameOk y
-named-is r x y p q = q ∙ rw p
+pub maximum-fits : (x : List ℕ) (w : Walk) → one 0x51 w ≡ true → x ≡ first (bodies 0x51 w) → eqb (length x) 4 ≡ goodBodies userKnown userGood w
+unfolding userGood
+maximum-fits x w o p = ap (λ (l : List ℕ). eqb (length l) 4) p ∙ one-good 0x51 w o userGood
 
-pub ruleset counting = (deciding, eqb-is, long-is, named-is, needs)
+pub ruleset counting = (deciding, eqb-is, transfer-is, maximum-fits, needs)
 
 -- ---- what follows the four bytes of a context, as the code has it
-pub tail-subs : (r : Bool) (b : List ℕ) → r ≡ keeps subRule 0 (walk (take (length b - 4) (drop 4 b))) → r ≡ keeps subRule 0 (walk (drop 4 b))
+pub tail-subs : (r : Bool) (b : List ℕ) → r ≡ subsOk (walk (take (length b - 4) (drop 4 b))) → r ≡ subsOk (walk (drop 4 b))
 tail-subs r b e = e ∙ rw (part-tail 4 b)
 
 pub tail-transfer : (r : Bool) (result : ℕ) (b : List ℕ) → r ≡ transferOk result (walk (take (length b - 4) (drop 4 b))) → r ≡ transferOk result (walk (drop 4 b))
 tail-transfer r result b e = e ∙ rw (part-tail 4 b)
 
 pub ruleset bodied = (deciding, tail-subs, tail-transfer, needs)
+
+-- ---- the loops over the items, with their numbers for what came so far
+pub sub-start : (s : List ℕ) → subsOk (walk s) ≡ keeps subRule 0 (walk s)
+sub-start s = sym (sub-is (walk s))
+
+pub top-start : (k : ℕ) (s : List ℕ) → topOk k (walk s) ≡ keeps (topRule k) 0 (walk s)
+top-start k s = sym (top-is k (walk s))
+
+pub ruleset in-order = (keeping, sub-start, top-start)
 
 -- ---- the maximum
 pub maximum-is : (s u m : List ℕ) (r : ℕ) → u ≡ first (bodies 0x50 (walk s)) → m ≡ first (bodies 0x51 (walk u)) → r ≡ be32 m 0 → r ≡ maximumIn s

@@ -1,7 +1,8 @@
 // A context: 20H in an RQ, 21H in an AC.
 ghost use mathlib.Core.Path.{_≡_};
-ghost use Rattle.items.specs.Items.{walk, keeps};
-ghost use Rattle.contents.specs.Contents.{subGood, subNext, subRule, one, transferOk, good20H, good21H, contextGood};
+ghost use Rattle.items.specs.Items.{walk};
+ghost use Rattle.contents.specs.Contents.{one, subsOk, good20H, transferOk, good21H, contextGood};
+ghost use Rattle.contents.specs.Inner.{subGood, subNext};
 
 // Whether a sub-item of a 20H may have this body.
 fn sub_good(t: u8, b: &[u8]) -> bool
@@ -39,7 +40,7 @@ fn sub_next(st: u8, t: u8) -> u8
 
 // Whether the sub-items of a 20H are one 30H, then one or more 40H, each with a name.
 fn subs_ok(s: &[u8]) -> bool
-    ensures { λ r. ⌜ r ≡ keeps subRule 0 (walk (now (s .entry))) ⌝ }
+    ensures { λ r. ⌜ r ≡ subsOk (walk (now (s .entry))) ⌝ }
 {
     let mut at: usize = 0;
     let mut st: u8 = 0;

@@ -1,7 +1,8 @@
 // The items themselves, with k for the type of a context: 20H in an RQ, 21H in an AC.
 ghost use mathlib.Core.Path.{_≡_};
-ghost use Rattle.items.specs.Items.{walk, keeps};
-ghost use Rattle.contents.specs.Contents.{topGood, topNext, topRule, itemsOk};
+ghost use Rattle.items.specs.Items.{walk};
+ghost use Rattle.contents.specs.Contents.{topGood, topOk, itemsOk};
+ghost use Rattle.contents.specs.Inner.{topNext};
 use crate::context::context_good;
 use crate::ids::ids_differ;
 use crate::user::user_ok;
@@ -51,7 +52,7 @@ fn top_next(k: u8, st: u8, t: u8) -> u8
 
 // Whether the items are one 10H, one or more contexts and one 50H, in order, and each holds what it must.
 fn top_ok(k: u8, s: &[u8]) -> bool
-    ensures { λ r. ⌜ r ≡ keeps (topRule k) 0 (walk (now (s .entry))) ⌝ }
+    ensures { λ r. ⌜ r ≡ topOk k (walk (now (s .entry))) ⌝ }
 {
     let mut at: usize = 0;
     let mut st: u8 = 0;

@@ -1,19 +1,17 @@
 -- What the items of a type are from a place on, and each loop of the code: a turn, and its ends.
 -- Assumes nothing.
-use Prim.Native.Nat.{ℕ, zero, suc, _+_, _-_, _≤_, _<_}
+use Prim.Native.Nat.{ℕ, _+_, _-_, _≤_, _<_}
 use native.Mathlib.Omega.{arith}
-use mathlib.Core.Bool.{Bool, true, false, _&&_, cond}
+use mathlib.Core.Bool.{Bool, true, false}
 use mathlib.Core.List.{List, [], _∷_}
-use mathlib.Core.Path.{_≡_, refl, sym, ap, _∙_}
+use mathlib.Core.Path.{_≡_, sym, ap, _∙_}
 use lib.ListN.{length, take, drop, getD, length-drop}
 use lib.Seq.{length-take-le}
-use lib.Dec.{leb, eqb}
-use borrow.Author.Tests.{eq-eqb, ne-eqb, eqb-true}
+use borrow.Author.Tests.{eq-eqb, ne-eqb}
 use Rattle.laws.specs.Lists.{all}
-use Rattle.laws.proofs.Booleans.{left-of, right-of, both-of}
 use Rattle.octets.proofs.SliceLaws.{place-from}
-use Rattle.items.specs.Items.{Walk, done, broken, item, walk, filled, bodies, first, place, Rule, keeps, itemEnd}
-use Rattle.items.proofs.WalkLaws.{Item, more, stop, over, item-from, item-to, item-less, item-fits, walking}
+use Rattle.items.specs.Items.{walk, filled, bodies, first, place, itemEnd}
+use Rattle.items.proofs.WalkLaws.{Item, more, stop, over, walking}
 
 -- the body of the item that stands at a place and ends at e
 abbrev pub bodyAt : List ℕ → ℕ → ℕ → List ℕ

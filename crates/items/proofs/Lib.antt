@@ -1,5 +1,6 @@
 pub mod WalkLaws
 pub mod ItemLaws
+pub mod HoldLaws
 pub mod RuleLaws
 pub mod WireLaws
 pub mod PlaceLaws

@@ -1,16 +1,17 @@
 -- Rules: the loop that follows one, and what a holder that keeps it has.
 -- Assumes nothing.
 use Prim.Native.Nat.{ℕ, _+_, _-_, _≤_, _<_}
-use mathlib.Core.Bool.{Bool, true, false, _&&_, cond}
+use mathlib.Core.Bool.{Bool, true, false, _&&_, cond, and-true}
 use mathlib.Core.List.{List, [], _∷_}
 use mathlib.Core.Path.{_≡_, refl, sym, ap, _∙_}
 use lib.ListN.{length, take, drop, getD}
 use lib.Dec.{eqb}
-use borrow.Author.Tests.{eqb-true, not-true, not-false}
-use Rattle.laws.specs.Lists.{all}
-use Rattle.laws.proofs.Booleans.{left-of, right-of, both-of}
-use Rattle.items.specs.Items.{Walk, done, broken, item, walk, filled, bodies, Rule, keeps, itemEnd}
+use borrow.Author.Tests.{not-true, not-false}
+use Rattle.laws.specs.Lists.{all, among}
+use Rattle.items.specs.Items.{Walk, done, broken, item, walk, filled, types, only, goodBodies, itemEnd}
+use Rattle.items.specs.Inner.{Rule, keeps}
 use Rattle.items.proofs.WalkLaws.{Item, stop, over, walking}
+use Rattle.items.proofs.HoldLaws.{pass, goods-more, goods-done}
 
 -- ---- the loop over a holder's items, with `all` for the answer for the whole: a turn, and its ends. What a call ensures goes in as it stands
 module _ (R : Rule) (all : Bool) (s : List ℕ) (at st : ℕ) (inv : all ≡ keeps R st (walk (drop at s))) where
@@ -33,19 +34,24 @@ module _ (R : Rule) (all : Bool) (s : List ℕ) (at st : ℕ) (inv : all ≡ kee
 
 pub ruleset keeping = (keeps-more, keeps-bad, keeps-stop, keeps-over, not-true, not-false, walking)
 
--- ---- a holder that keeps its rule is filled, and the bodies of each type are good
-pub keeps-filled : (R : Rule) (st : ℕ) (w : Walk) → keeps R st w ≡ true → filled w ≡ true
-unfolding keeps filled
-keeps-filled R st done h = refl
-keeps-filled R st broken h = h
-keeps-filled R st (item t b w) h = keeps-filled R (R .next st t) w (right-of (R .good t b) _ h)
+-- ---- A rule, told apart: the items fill the holder, the known types lead to the last state, and every known body is good
+-- the state after items of these types
+unfoldable pub after : Rule → ℕ → List ℕ → ℕ
+after R st [] = st
+after R st (t ∷ ts) = after R (R .next st t) ts
 
-pub keeps-good : (R : Rule) (t st : ℕ) (w : Walk) → keeps R st w ≡ true → all (R .good t) (bodies t w) ≡ true
-unfolding keeps bodies
-keeps-good R t st done h = refl
-keeps-good R t st broken h = refl
-keeps-good R t st (item u b w) h = go (eqb u t) refl (keeps-good R t (R .next st u) w (right-of (R .good u b) _ h))
-  where
-    go : (d : Bool) → eqb u t ≡ d → all (R .good t) (bodies t w) ≡ true → all (R .good t) (cond d (b ∷ bodies t w) (bodies t w)) ≡ true
-    go true q k = both-of (R .good t b) _ (ap (λ (x : ℕ). R .good x b) (sym (eqb-true u t q)) ∙ left-of _ _ h) k
-    go false q k = k
+module _ (R : Rule) (known : List ℕ) (good : ℕ → List ℕ → Bool) (bodied : (t : ℕ) (b : List ℕ) → R .good t b ≡ cond (among t known) (good t b) true)
+    (skips : (st t : ℕ) → among t known ≡ false → R .next st t ≡ st) where
+  pub keeps-is : (st : ℕ) (w : Walk) → keeps R st w ≡ (filled w && (eqb (after R st (only known (types w))) (R .last) && goodBodies known good w))
+  unfolding keeps filled types only after
+  keeps-is st done = rw (goods-done known good) (sym (and-true (eqb st (R .last))))
+  keeps-is st broken = refl
+  keeps-is st (item t b w) = rw (bodied t b, goods-more known good t b w, keeps-is (R .next st t) w) (go (among t known) refl)
+    where
+      go : (d : Bool) → among t known ≡ d
+          → (cond d (good t b) true && (filled w && (eqb (after R (R .next st t) (only known (types w))) (R .last) && goodBodies known good w)))
+          ≡ (filled w && (eqb (after R st (cond d (t ∷ only known (types w)) (only known (types w)))) (R .last) && (cond d (good t b) true && goodBodies known good w)))
+      go true e =
+          let s : Bool = eqb (after R (R .next st t) (only known (types w))) (R .last) in
+          pass (filled w) (good t b) (s && goodBodies known good w) ∙ ap (λ (x : Bool). filled w && x) (pass s (good t b) (goodBodies known good w))
+      go false e = rw (skips st t e)

@@ -1,20 +1,22 @@
 -- What is written as items is walked over as the same items.
 -- Assumes nothing.
-use Prim.Native.Nat.{ℕ, _+_, _-_, _*_, _/_, _%_, _≤_, _<_}
+use Prim.Native.Nat.{ℕ, zero, suc, _+_, _<_}
 use native.Mathlib.Omega.{arith}
-use mathlib.Core.Bool.{Bool, true, false, cond}
+use mathlib.Core.Bool.{Bool, true, false}
 use mathlib.Core.List.{List, [], _∷_, _++_, append-assoc, append-nil}
 use mathlib.Core.Path.{_≡_, refl, sym, ap, _∙_}
-use lib.ListN.{length, take, drop, length-append}
+use lib.ListN.{length, drop, replicate, length-append}
 use lib.Seq.{take-at, drop-at}
 use lib.Dec.{leb, eqb}
 use borrow.Author.Tests.{le-leb, eq-eqb}
-use Rattle.laws.specs.Lists.{all}
-use Rattle.laws.proofs.Booleans.{left-of, right-of}
+use Rattle.laws.specs.Lists.{all, among, sameBytes}
+use Rattle.laws.proofs.Booleans.{holds as is-true, left-of, right-of, both-of}
+use Rattle.laws.proofs.Same.{same-self}
 use Rattle.octets.specs.Octets.{be16}
-use Rattle.items.specs.Items.{Walk, done, broken, item, step, walk, filled, bodies, place, Rule, keeps}
+use Rattle.items.specs.Items.{Walk, done, item, step, walk, filled, bodies, types, only, goodBodies, holds}
 use Rattle.items.specs.Wire.{itemBytes, itemsBytes}
 use Rattle.items.proofs.WalkLaws.{walk-step, walk-nil}
+use Rattle.items.proofs.HoldLaws.{goods-more}
 
 -- ---- one item
 size : (t : ℕ) (b rest : List ℕ) → be16 (itemBytes t b ++ rest) 2 ≡ length b
@@ -69,7 +71,30 @@ unfolding run filled
 filled-run t [] w = refl
 filled-run t (b ∷ bs) w = filled-run t bs w
 
-pub keeps-run : (R : Rule) (t st : ℕ) (bs : List (List ℕ)) (w : Walk) → all (R .good t) bs ≡ true → R .next st t ≡ st → keeps R st (run t bs w) ≡ keeps R st w
-unfolding keeps run
-keeps-run R t st [] w g n = refl
-keeps-run R t st (b ∷ bs) w g n = let e : R .good t b ≡ true = left-of _ _ g in rw (e, n) (keeps-run R t st bs w (right-of (R .good t b) _ g) n)
+-- their types, and the known ones among them
+pub types-run : (t : ℕ) (bs : List (List ℕ)) (w : Walk) → types (run t bs w) ≡ replicate (length bs) t ++ types w
+unfolding run types
+types-run t [] w = refl
+types-run t (b ∷ bs) w = rw (types-run t bs w)
+
+pub only-run : (known : List ℕ) (t n : ℕ) (ts : List ℕ) → among t known ≡ true → only known (replicate n t ++ ts) ≡ replicate n t ++ only known ts
+unfolding only
+only-run known t zero ts h = refl
+only-run known t (suc n) ts h = rw (h, only-run known t n ts h)
+
+pub goods-run : (known : List ℕ) (good : ℕ → List ℕ → Bool) (t : ℕ) (bs : List (List ℕ)) (w : Walk) → among t known ≡ true → all (good t) bs ≡ true → goodBodies known good (run t bs w) ≡ goodBodies known good w
+unfolding run
+goods-run known good t [] w i g = refl
+goods-run known good t (b ∷ bs) w i g =
+    let e : good t b ≡ true = left-of _ _ g in
+    goods-more known good t b (run t bs w) ∙ rw (i, e) (goods-run known good t bs w i (right-of (good t b) _ g))
+
+-- ---- an item of type a, then items of type k, then v: these are the known ones in order
+pub written : (known : List ℕ) (good : ℕ → List ℕ → Bool) (a k : ℕ) (x : List ℕ) (bs : List (List ℕ)) (v : Walk) → among a known ≡ true → among k known ≡ true
+    → good a x ≡ true → all (good k) bs ≡ true → filled v ≡ true → goodBodies known good v ≡ true → holds known good (a ∷ (replicate (length bs) k ++ only known (types v))) (item a x (run k bs v)) ≡ true
+unfolding holds filled types only
+written known good a k x bs v i j g h f r =
+    let e : goodBodies known good (item a x (run k bs v)) ≡ true = goods-more known good a x (run k bs v) ∙ rw (i, g) (goods-run known good k bs v j h ∙ r) in
+    let o : only known (types (run k bs v)) ≡ replicate (length bs) k ++ only known (types v) = ap (only known) (types-run k bs v) ∙ only-run known k (length bs) (types v) j in
+    let l : List ℕ = a ∷ (replicate (length bs) k ++ only known (types v)) in
+    rw (filled-run k bs v, f, i, o) (both-of (sameBytes l l) _ (is-true (sameBytes l l) (same-self l)) e)

@@ -5,7 +5,7 @@ use mathlib.Core.Bool.{Bool, true, false, _&&_, cond}
 use mathlib.Core.List.{List, [], _∷_}
 use lib.ListN.{length, take, drop, getD}
 use lib.Dec.{leb, eqb}
-use Rattle.laws.specs.Lists.{empty}
+use Rattle.laws.specs.Lists.{all, empty, among, sameBytes}
 use Rattle.octets.specs.Octets.{be16}
 
 -- what stands in a holder: items, each a type and a body, up to the holder's very end (`done`) or to something that is no whole item (`broken`)
@@ -51,18 +51,24 @@ place t done = 0
 place t broken = 0
 place t (item u b w) = cond (eqb u t) 4 (4 + length b + place t w)
 
--- A rule for the items of one holder, where their order counts: which bodies are good for which type; the state after an item of a type; the state
--- that may stand at the end. A type that the rule does not know is good with any body and leaves the state
-pub record Rule : Type 0 where
-  pub good : ℕ → List ℕ → Bool
-  pub next : ℕ → ℕ → ℕ
-  pub last : ℕ
+-- the types of the items, in order
+unfoldable pub types : Walk → List ℕ
+types done = []
+types broken = []
+types (item t b w) = t ∷ types w
 
--- the items fill the holder and keep the rule, from a state on
-unfoldable pub keeps : Rule → ℕ → Walk → Bool
-keeps R st done = eqb st (R .last)
-keeps R st broken = false
-keeps R st (item t b w) = R .good t b && keeps R (R .next st t) w
+-- the known ones among types, in order: "Every other type is skipped wherever it stands."
+unfoldable pub only : List ℕ → List ℕ → List ℕ
+only known [] = []
+only known (t ∷ ts) = cond (among t known) (t ∷ only known ts) (only known ts)
+
+-- every body of a known type is good
+unfoldable pub goodBodies : List ℕ → (ℕ → List ℕ → Bool) → Walk → Bool
+goodBodies known good w = all (λ t. all (good t) (bodies t w)) known
+
+-- the items fill the holder; the known ones are of these types, in this order, each with a good body
+unfoldable pub holds : List ℕ → (ℕ → List ℕ → Bool) → List ℕ → Walk → Bool
+holds known good order w = filled w && (sameBytes (only known (types w)) order && goodBodies known good w)
 
 -- the place behind the item at a place, or 0 where no whole item stands there
 unfoldable pub itemEnd : List ℕ → ℕ → ℕ

@@ -11,9 +11,9 @@ use Rattle.laws.specs.Text.{bytes}
 use Rattle.octets.specs.Octets.{four, be16, be32}
 use Rattle.names.specs.Name.{nameOk}
 use Rattle.titles.specs.Title.{titleOk}
-use Rattle.items.specs.Items.{step, walkIn, walk, filled, bodies, keeps}
+use Rattle.items.specs.Items.{step, walkIn, walk, filled, bodies, types, only, goodBodies, holds}
 use Rattle.items.specs.Wire.{itemBytes}
-use Rattle.contents.specs.Contents.{subGood, subNext, good20H, one, transferOk, good21H, good50H, contextGood, topGood, topNext, ids, itemsOk, maximumIn}
+use Rattle.contents.specs.Contents.{subsOk, good20H, one, transferOk, good21H, userGood, good50H, contextGood, topGood, topOk, ids, itemsOk, maximumIn}
 use Rattle.pdvs.specs.Data.{pdvStep, pdvsIn, pdvs, pdvOk, pdvsOk}
 use Rattle.reasons.specs.Values.{rejectReasons, rejectOk, abortOk}
 use Rattle.judging.specs.Pdu.{whole, requestOk, acceptOk, rejectPduOk, dataOk, releaseOk, abortPduOk, validAs, kindOf, acceptable, maximumOf}
@@ -152,14 +152,14 @@ others =
     ∷ []
 
 pub kinds : (asked requests && (asked answers && asked others)) ≡ true
-unfolding kindOf validAs whole requestOk acceptOk rejectPduOk dataOk releaseOk abortPduOk rejectReasons rejectOk abortOk pdvStep pdvsIn pdvs pdvOk pdvsOk subGood subNext good20H one transferOk good21H good50H contextGood topGood topNext ids itemsOk step walkIn walk filled bodies keeps itemBytes nameOk titleOk be16 be32 among distinct
+unfolding kindOf validAs whole requestOk acceptOk rejectPduOk dataOk releaseOk abortPduOk rejectReasons rejectOk abortOk pdvStep pdvsIn pdvs pdvOk pdvsOk subsOk good20H one transferOk good21H userGood good50H contextGood topGood topOk ids itemsOk step walkIn walk filled bodies types only goodBodies holds itemBytes nameOk titleOk be16 be32 among distinct
 kinds = refl
 
 -- version 2 is valid but not acceptable, 3 is; and the maximum
 pub versions : (acceptable (frame 1 3 title (application ++ (context 1 ++ user))) ≡ true) × (acceptable (frame 1 2 title (application ++ (context 1 ++ user))) ≡ false)
-unfolding acceptable kindOf validAs whole requestOk subGood subNext good20H one good50H contextGood topGood topNext ids itemsOk step walkIn walk filled bodies keeps itemBytes nameOk titleOk be16 be32 among distinct
+unfolding acceptable kindOf validAs whole requestOk subsOk good20H one userGood good50H contextGood topGood topOk ids itemsOk step walkIn walk filled bodies types only goodBodies holds itemBytes nameOk titleOk be16 be32 among distinct
 versions = (refl, refl)
 
 pub maxima : maximumOf (ac (application ++ (answer 1 0 ++ user))) ≡ 16384
-unfolding maximumOf maximumIn kindOf validAs whole acceptOk one transferOk good21H good50H contextGood topGood topNext ids itemsOk step walkIn walk filled bodies keeps itemBytes nameOk be16 be32 among distinct
+unfolding maximumOf maximumIn kindOf validAs whole acceptOk one transferOk good21H userGood good50H contextGood topGood topOk ids itemsOk step walkIn walk filled bodies types only goodBodies holds itemBytes nameOk be16 be32 among distinct
 maxima = refl

@@ -9,14 +9,14 @@ use Rattle.laws.specs.Text.{bytes}
 use Rattle.octets.specs.Octets.{four, be16, be32}
 use Rattle.names.specs.Name.{nameOk}
 use Rattle.titles.specs.Title.{titleOk}
-use Rattle.items.specs.Items.{step, walkIn, walk, filled, bodies, place, keeps}
+use Rattle.items.specs.Items.{step, walkIn, walk, filled, bodies, place, types, only, goodBodies, holds}
 use Rattle.items.specs.Wire.{itemBytes}
-use Rattle.contents.specs.Contents.{subGood, subNext, good20H, one, transferOk, good21H, good50H, contextGood, topGood, topNext, ids, itemsOk, maximumIn}
+use Rattle.contents.specs.Contents.{subsOk, good20H, one, userGood, good50H, contextGood, topGood, topOk, ids, itemsOk, maximumIn}
 use Rattle.pdvs.specs.Data.{pdvStep, pdvsIn, pdvs, pdvOk, pdvsOk}
 use Rattle.reasons.specs.Values.{rejectReasons, rejectOk, abortOk}
-use Rattle.judging.specs.Pdu.{whole, requestOk, acceptOk, rejectPduOk, dataOk, abortPduOk, validAs, kindOf, maximumOf}
-use Rattle.sheets.specs.Sheet.{recordBytes, contextRecords, sheetOf, answerSheetOf}
-use Rattle.reading.specs.Associate.{contextOf, answerOf, proposed, answered, applicationOf, applicationAt, sheetIn, associateOf, filling}
+use Rattle.judging.specs.Pdu.{whole, requestOk, rejectPduOk, dataOk, abortPduOk, validAs, kindOf, maximumOf}
+use Rattle.sheets.specs.Sheet.{recordBytes, contextRecords, sheetOf}
+use Rattle.reading.specs.Associate.{contextOf, proposed, applicationOf, applicationAt, sheetIn, associateOf, filling}
 use Rattle.reading.specs.Data.{pdvsOf, pdv, startOf, dataOf, fragmentOf}
 use Rattle.reading.specs.Values.{rejectOf, abortOf}
 
@@ -79,14 +79,14 @@ abbrev request : List ℕ
 request = 1 ∷ 0 ∷ (four (length body) ++ body)
 
 pub request-read : associateOf 1 request 300 ≡ record { refusal = 0; version = 3; «application_at» = 84; «application_len» = 21; maximum = 32768; records = 2 }
-unfolding associateOf sheetIn proposed contextOf contextRecords sheetOf recordBytes applicationOf applicationAt kindOf maximumOf maximumIn validAs whole requestOk subGood subNext good20H one good50H contextGood topGood topNext ids itemsOk step walkIn walk filled bodies place keeps itemBytes nameOk titleOk be16 be32 among distinct
+unfolding associateOf sheetIn proposed contextOf contextRecords sheetOf recordBytes applicationOf applicationAt kindOf maximumOf maximumIn validAs whole requestOk subsOk good20H one userGood good50H contextGood topGood topOk ids itemsOk step walkIn walk filled bodies place types only goodBodies holds itemBytes nameOk titleOk be16 be32 among distinct
 request-read = refl
 
 pub request-filled : filling 1 request 300 ≡ recordBytes 5 0 verification implicit ++ recordBytes 5 0 verification explicit
-unfolding filling sheetIn proposed contextOf contextRecords sheetOf recordBytes kindOf validAs whole requestOk subGood subNext good20H one good50H contextGood topGood topNext ids itemsOk step walkIn walk filled bodies place keeps itemBytes nameOk titleOk be16 be32 among distinct
+unfolding filling sheetIn proposed contextOf contextRecords sheetOf recordBytes kindOf validAs whole requestOk subsOk good20H one userGood good50H contextGood topGood topOk ids itemsOk step walkIn walk filled bodies place types only goodBodies holds itemBytes nameOk titleOk be16 be32 among distinct
 request-filled = refl
 
 -- one byte too little room: 2, and not the number needed
 pub request-narrow : associateOf 1 request 263 ≡ record { refusal = 2; version = 0; «application_at» = 0; «application_len» = 0; maximum = 0; records = 0 }
-unfolding associateOf sheetIn proposed contextOf contextRecords sheetOf recordBytes kindOf validAs whole requestOk subGood subNext good20H one good50H contextGood topGood topNext ids itemsOk step walkIn walk filled bodies place keeps itemBytes nameOk titleOk be16 be32 among distinct
+unfolding associateOf sheetIn proposed contextOf contextRecords sheetOf recordBytes kindOf validAs whole requestOk subsOk good20H one userGood good50H contextGood topGood topOk ids itemsOk step walkIn walk filled bodies place types only goodBodies holds itemBytes nameOk titleOk be16 be32 among distinct
 request-narrow = refl

@@ -1,27 +1,25 @@
 -- What was read: the contexts of a valid RQ are good and the sheet is theirs; the application name stands where the answer says; nothing else of the sheet changes.
 -- Assumes nothing.
-use Prim.Native.Nat.{ℕ, _+_, _-_, _*_, _/_, _≤_, _<_}
+use Prim.Native.Nat.{ℕ, _*_, _/_}
 use native.Mathlib.Omega.{arith}
 use mathlib.Core.Bool.{Bool, true, false, _&&_, cond}
 use mathlib.Core.List.{List, [], _∷_, _++_, map}
 use mathlib.Core.Path.{_≡_, refl, sym, ap, _∙_}
-use lib.ListN.{length, take, drop, getD, length-map, length-append, length-drop}
+use lib.ListN.{length, take, drop, getD, length-map}
 use lib.Seq.{take-at, drop-at, drop-drop}
 use lib.Dec.{leb, eqb}
 use borrow.Author.Tests.{le-leb, leb-true, ne-eqb, eqb-true}
 use Rattle.laws.specs.Lists.{all, distinct}
 use Rattle.laws.proofs.Booleans.{left-of, right-of, both-of}
 use Rattle.octets.specs.Put.{front}
-use Rattle.names.specs.Name.{nameOk}
 use Rattle.items.specs.Items.{walk, bodies, first, place}
 use Rattle.items.proofs.PlaceLaws.{stands}
 use Rattle.contents.specs.Contents.{bodyId, ids, good20H, good21H}
-use Rattle.contents.proofs.GoodLaws.{odd-20, abstract-name, some-transfer, transfer-names, odd-21, result-21, transfer-name, items-20, items-21, items-kept, items-distinct}
-use Rattle.contents.proofs.Meaning.{request-counts, accept-counts}
+use Rattle.contents.proofs.GoodLaws.{odd-20, abstract-name, some-transfer, transfer-names, odd-21, result-21, transfer-name, items-20, items-21, items-some, items-distinct}
 use Rattle.judging.specs.Pdu.{kindOf}
 use Rattle.judging.proofs.KindLaws.{request-items, accept-items}
-use Rattle.sheets.specs.Contexts.{Context, Answered, contextId, answeredId, contextOk, transferOk, answeredOk, contextsOk, allAnsweredOk}
-use Rattle.sheets.specs.Sheet.{sheetOf, answerSheetOf, contextsIn, answersIn, proposalOk, answersOk}
+use Rattle.sheets.specs.Contexts.{contextId, answeredId, contextOk, transferOk, answeredOk, contextsOk, allAnsweredOk}
+use Rattle.sheets.specs.Sheet.{contextsIn, answersIn, proposalOk, answersOk}
 use Rattle.sheets.proofs.Inverse.{contexts-back, contexts-proposal, answered-back, answered-answers, proposal-whole, answers-whole}
 use Rattle.reading.specs.Associate.{contextOf, answerOf, proposed, answered, applicationOf, applicationAt, sheetIn, refused, fieldsOf, associateRefusal, associateOf, filling, Read}
 use Rattle.reading.specs.declared.associate.Associate.{Associate}
@@ -41,8 +39,8 @@ context-ids [] = refl
 context-ids (b ∷ bs) = rw (context-ids bs)
 
 module _ (x : List ℕ) (v : kindOf x ≡ 1) where
-  some-context : 1 ≤ length (map contextOf (bodies 0x20 (walk (drop 74 x))))
-  some-context = rw (length-map (bodies 0x20 (walk (drop 74 x))) contextOf) (request-counts (walk (drop 74 x)) (items-kept 0x20 (drop 74 x) (request-items x v)) .contexts)
+  some-context : leb 1 (length (map contextOf (bodies 0x20 (walk (drop 74 x))))) ≡ true
+  some-context = rw (length-map (bodies 0x20 (walk (drop 74 x))) contextOf) (items-some 0x20 (drop 74 x) (request-items x v))
 
   differ-20 : distinct (map bodyId (bodies 0x20 (walk (drop 74 x)))) ≡ true
   unfolding ids
@@ -51,7 +49,7 @@ module _ (x : List ℕ) (v : kindOf x ≡ 1) where
   pub request-contexts : contextsOk (proposed x) ≡ true
   unfolding contextsOk proposed
   request-contexts =
-      both-of _ _ (le-leb 1 (length (map contextOf (bodies 0x20 (walk (drop 74 x))))) some-context)
+      both-of _ _ some-context
       (both-of _ _ (contexts-good (bodies 0x20 (walk (drop 74 x))) (items-20 (drop 74 x) (request-items x v)))
       (ap distinct (context-ids (bodies 0x20 (walk (drop 74 x)))) ∙ differ-20))
 
@@ -79,8 +77,8 @@ answer-ids [] = refl
 answer-ids (b ∷ bs) = rw (answer-ids bs)
 
 module _ (x : List ℕ) (v : kindOf x ≡ 2) where
-  some-answer : 1 ≤ length (map answerOf (bodies 0x21 (walk (drop 74 x))))
-  some-answer = rw (length-map (bodies 0x21 (walk (drop 74 x))) answerOf) (accept-counts (walk (drop 74 x)) (items-kept 0x21 (drop 74 x) (accept-items x v)) .contexts)
+  some-answer : leb 1 (length (map answerOf (bodies 0x21 (walk (drop 74 x))))) ≡ true
+  some-answer = rw (length-map (bodies 0x21 (walk (drop 74 x))) answerOf) (items-some 0x21 (drop 74 x) (accept-items x v))
 
   differ-21 : distinct (map bodyId (bodies 0x21 (walk (drop 74 x)))) ≡ true
   unfolding ids
@@ -89,7 +87,7 @@ module _ (x : List ℕ) (v : kindOf x ≡ 2) where
   pub accept-answers : allAnsweredOk (answered x) ≡ true
   unfolding allAnsweredOk answered
   accept-answers =
-      both-of _ _ (le-leb 1 (length (map answerOf (bodies 0x21 (walk (drop 74 x))))) some-answer)
+      both-of _ _ some-answer
       (both-of _ _ (answers-good (bodies 0x21 (walk (drop 74 x))) (items-21 (drop 74 x) (accept-items x v)))
       (ap distinct (answer-ids (bodies 0x21 (walk (drop 74 x)))) ∙ differ-21))
 

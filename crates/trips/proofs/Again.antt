@@ -2,24 +2,24 @@
 -- Assumes nothing.
 use Prim.Native.Nat.{ℕ, _+_, _-_, _≤_}
 use native.Mathlib.Omega.{arith}
-use mathlib.Core.Bool.{true, false, _&&_}
+use mathlib.Core.Bool.{true, false, _&&_, or-true}
 use mathlib.Core.List.{List, [], _∷_, _++_, map}
 use mathlib.Core.Path.{_≡_, refl, ap, _∙_}
 use lib.ListN.{length, take, drop, getD, replicate, length-append, length-drop, length-map}
 use lib.Seq.{length-take-le}
 use lib.Dec.{leb, eqb}
-use borrow.Author.Tests.{le-leb, eq-eqb, leb-true, eqb-true}
-use Rattle.laws.specs.Lists.{all, distinct, joined}
+use borrow.Author.Tests.{le-leb, eq-eqb}
+use Rattle.laws.specs.Lists.{all, among, distinct, joined}
 use Rattle.laws.proofs.Booleans.{left-of, right-of, both-of}
 use Rattle.names.specs.Name.{nameOk}
 use Rattle.titles.specs.Title.{titleOk}
-use Rattle.items.specs.Items.{walk, filled, bodies, first}
+use Rattle.items.specs.Items.{walk, bodies, first}
 use Rattle.items.specs.Wire.{itemBytes, itemsBytes}
-use Rattle.items.proofs.RuleLaws.{keeps-filled, keeps-good}
+use Rattle.items.proofs.HoldLaws.{first-good}
 use Rattle.items.proofs.WireLaws.{item-length, items-cons}
 use Rattle.octets.specs.Octets.{odd}
-use Rattle.contents.specs.Contents.{subRule, good20H, one, transferOk as walkedOk, good21H, good50H, topGood, topRule, bodyId, ids, itemsOk}
-use Rattle.contents.proofs.GoodLaws.{kept-20, odd-20, abstract-names, transfer-names, odd-21, result-21, transfer-name, items-kept, items-distinct, items-20, items-21}
+use Rattle.contents.specs.Contents.{good20H, good21H, good50H, topGood, bodyId, ids, itemsOk}
+use Rattle.contents.proofs.GoodLaws.{four-20, odd-20, filled-20, counts-20, abstract-name, some-transfer, transfer-names, one-filled, one-count, four-21, odd-21, result-21, one-21, transfer-name, one-50, maximum-four, items-distinct, items-some, items-filled, items-good, items-counts, items-20, items-21}
 use Rattle.judging.specs.Pdu.{pduLength, calledOf, callingOf, topItems, requestOk, kindOf}
 use Rattle.judging.proofs.KindLaws.{kind-whole, kind-request, request-long, accept-long, request-items, accept-items, whole-length, whole-limit}
 use Rattle.sheets.specs.Contexts.{Context, Answered, contextId, answeredId, contextOk, transferOk, answeredOk, contextsOk, allAnsweredOk}
@@ -31,7 +31,6 @@ use Rattle.writing.specs.Wire.{Frame, frameItems, frameBytes, pduBytes, ourUser
 use Rattle.writing.specs.Form.{refusalOf, sentBytes, rqForm, acForm}
 use Rattle.writing.proofs.FormLaws.{refusal-0}
 use Rattle.trips.specs.Trips.{RqTrip, AcTrip, rqRead, acRead}
-use Rattle.trips.proofs.MetTrip.{first-good, some-30, some-40, some-10, some-context, some-50}
 use Rattle.trips.proofs.Share.{share, three, first-share}
 use Rattle.trips.proofs.SentTrip.{sent-rq, sent-ac}
 
@@ -39,15 +38,7 @@ use Rattle.trips.proofs.SentTrip.{sent-rq, sent-ac}
 module _ (b : List ℕ) (g : good20H b ≡ true) where
   context-ok : contextOk (contextOf b) ≡ true
   unfolding contextOk contextOf
-  context-ok =
-      let k = kept-20 b g in
-      both-of (odd (getD b 0 0)) _ (odd-20 b g)
-      (both-of _ _ (first-good nameOk (bodies 0x30 (walk (drop 4 b))) (some-30 (walk (drop 4 b)) k) (abstract-names b g))
-      (both-of (leb 1 (length (bodies 0x40 (walk (drop 4 b))))) _ (some-40 (walk (drop 4 b)) k) (transfer-names b g)))
-
-  context-four : 4 ≤ length b
-  unfolding good20H
-  context-four = leb-true _ _ (left-of _ _ g)
+  context-ok = both-of _ _ (odd-20 b g) (both-of _ _ (abstract-name b g) (both-of _ _ (some-transfer b g) (transfer-names b g)))
 
   context-long : length (contextBody (contextOf b)) ≡ 8 + length (first (bodies 0x30 (walk (drop 4 b)))) + share 0x40 (walk (drop 4 b))
   unfolding contextBody contextOf
@@ -58,39 +49,28 @@ module _ (b : List ℕ) (g : good20H b ≡ true) where
 
   context-short : length (contextBody (contextOf b)) ≤ length b
   context-short =
-      let k = kept-20 b g in
-      let f = first-share 0x30 (bodies 0x30 (walk (drop 4 b))) (some-30 (walk (drop 4 b)) k) in
-      let t = three 0x30 0x40 0x51 (drop 4 b) refl refl refl (keeps-filled subRule 0 (walk (drop 4 b)) k) in
+      let c = counts-20 b g .abstracts in
+      let f = first-share 0x30 (bodies 0x30 (walk (drop 4 b))) (omega arith) in
+      let t = three 0x30 0x40 0x51 (drop 4 b) refl refl refl (filled-20 b g) in
       let d = length-drop 4 b in
-      let n = context-four in
+      let n = four-20 b g in
       let l = context-long in
       omega arith
 
 -- ---- an answer
 module _ (b : List ℕ) (g : good21H b ≡ true) where
-  answer-parts : (leb 4 (length b) && (odd (getD b 0 0) && (leb (getD b 2 0) 4 && walkedOk (getD b 2 0) (walk (drop 4 b))))) ≡ true
-  unfolding good21H
-  answer-parts = g
-
   answer-ok : answeredOk (answerOf b) ≡ true
   unfolding answeredOk transferOk answerOf
   answer-ok = both-of (odd (getD b 0 0)) _ (odd-21 b g) (both-of _ _ (le-leb (getD b 2 0) 4 (result-21 b g)) (transfer-name b g))
 
-  answer-walked : ((filled (walk (drop 4 b)) && eqb (length (bodies 0x40 (walk (drop 4 b)))) 1) && nameOk (first (bodies 0x40 (walk (drop 4 b))))) ≡ true
-  unfolding walkedOk one
-  answer-walked = right-of (leb (getD b 2 0) 4) _ (right-of (odd (getD b 0 0)) _ (right-of (leb 4 (length b)) _ answer-parts))
-
-  answer-one : (filled (walk (drop 4 b)) && eqb (length (bodies 0x40 (walk (drop 4 b)))) 1) ≡ true
-  answer-one = left-of _ _ answer-walked
-
   answer-short : length (answerBody (answerOf b)) ≤ length b
   unfolding answerBody answerOf
   answer-short =
-      let n : length (bodies 0x40 (walk (drop 4 b))) ≡ 1 = eqb-true _ _ (right-of (filled (walk (drop 4 b))) _ answer-one) in
-      let f = first-share 0x40 (bodies 0x40 (walk (drop 4 b))) (le-leb 1 (length (bodies 0x40 (walk (drop 4 b)))) (omega arith)) in
-      let t = three 0x30 0x40 0x51 (drop 4 b) refl refl refl (left-of _ _ answer-one) in
+      let n = one-count 0x40 (walk (drop 4 b)) (one-21 b g) in
+      let f = first-share 0x40 (bodies 0x40 (walk (drop 4 b))) (omega arith) in
+      let t = three 0x30 0x40 0x51 (drop 4 b) refl refl refl (one-filled 0x40 (walk (drop 4 b)) (one-21 b g)) in
       let d = length-drop 4 b in
-      let m : 4 ≤ length b = leb-true _ _ (left-of _ _ answer-parts) in
+      let m = four-21 b g in
       let a = item-length 0x40 (first (bodies 0x40 (walk (drop 4 b)))) in
       omega arith
 
@@ -129,32 +109,34 @@ answering (b ∷ bs) q =
 
 -- ---- the top: the application name, and the room that a 10H, the contexts and our 50H take
 user-eight : (u : List ℕ) → good50H u ≡ true → 8 ≤ length u
-unfolding good50H one
 user-eight u g =
-    let o : (filled (walk u) && eqb (length (bodies 0x51 (walk u))) 1) ≡ true = left-of _ _ g in
-    let n : length (bodies 0x51 (walk u)) ≡ 1 = eqb-true _ _ (right-of (filled (walk u)) _ o) in
-    let f = first-share 0x51 (bodies 0x51 (walk u)) (le-leb 1 (length (bodies 0x51 (walk u))) (omega arith)) in
-    let l : length (first (bodies 0x51 (walk u))) ≡ 4 = eqb-true _ _ (right-of (filled (walk u) && eqb (length (bodies 0x51 (walk u))) 1) _ g) in
-    let t = three 0x30 0x40 0x51 u refl refl refl (left-of _ _ o) in
+    let n = one-count 0x51 (walk u) (one-50 u g) in
+    let f = first-share 0x51 (bodies 0x51 (walk u)) (omega arith) in
+    let l = maximum-four u g in
+    let t = three 0x30 0x40 0x51 u refl refl refl (one-filled 0x51 (walk u) (one-50 u g)) in
     omega arith
 
-module _ (k : ℕ) (s : List ℕ) (g : itemsOk k s ≡ true) (a : eqb 0x10 k ≡ false) (b : eqb k 0x50 ≡ false) (c : eqb 0x50 k ≡ false) where
+module _ (k : ℕ) (s : List ℕ) (g : itemsOk k s ≡ true) (a : eqb k 0x10 ≡ false) (b : eqb 0x10 k ≡ false) (c : eqb k 0x50 ≡ false) (d : eqb 0x50 k ≡ false) where
   top-name : nameOk (first (bodies 0x10 (walk s))) ≡ true
-  unfolding topGood
-  top-name = first-good nameOk (bodies 0x10 (walk s)) (some-10 k (walk s) (items-kept k s g)) (keeps-good (topRule k) 0x10 0 (walk s) (items-kept k s g))
+  unfolding topGood among
+  top-name = let n = items-counts k s g a c .applications in first-good nameOk (bodies 0x10 (walk s)) (omega arith) (items-good k s g 0x10 refl)
 
   last-good : good50H (first (bodies 0x50 (walk s))) ≡ true
-  unfolding topGood
-  last-good = let x : topGood k 0x50 (first (bodies 0x50 (walk s))) ≡ true = first-good (topGood k 0x50) (bodies 0x50 (walk s)) (some-50 k (walk s) (items-kept k s g)) (keeps-good (topRule k) 0x50 0 (walk s) (items-kept k s g)) in
-      rw c at x
+  unfolding topGood among
+  last-good =
+      let n = items-counts k s g a c .users in
+      let x : topGood k 0x50 (first (bodies 0x50 (walk s))) ≡ true = first-good (topGood k 0x50) (bodies 0x50 (walk s)) (omega arith) (items-good k s g 0x50 (or-true (eqb 0x50 k))) in
+      rw d at x
 
   top-short : 4 + length (first (bodies 0x10 (walk s))) + (share k (walk s) + 12) ≤ length s
   top-short =
-      let h = items-kept k s g in
-      let f = first-share 0x10 (bodies 0x10 (walk s)) (some-10 k (walk s) h) in
-      let l = first-share 0x50 (bodies 0x50 (walk s)) (some-50 k (walk s) h) in
+      let m = items-counts k s g a c in
+      let n = m .applications in
+      let o = m .users in
+      let f = first-share 0x10 (bodies 0x10 (walk s)) (omega arith) in
+      let l = first-share 0x50 (bodies 0x50 (walk s)) (omega arith) in
       let u = user-eight (first (bodies 0x50 (walk s))) last-good in
-      let t = three 0x10 k 0x50 s a refl b (keeps-filled (topRule k) 0 (walk s) h) in
+      let t = three 0x10 k 0x50 s b refl c (items-filled k s g) in
       omega arith
 
 -- ---- a frame of our user information
@@ -190,7 +172,7 @@ module _ (pdu : List ℕ) (e : kindOf pdu ≡ 1) where
   unfolding contextsOk proposed ids
   rq-contexts =
       let r = rq-listed in
-      both-of _ _ (ap (leb 1) (length-map (bodies 0x20 (walk (topItems pdu))) contextOf) ∙ some-context 0x20 (walk (topItems pdu)) (items-kept 0x20 (topItems pdu) rq-items))
+      both-of _ _ (ap (leb 1) (length-map (bodies 0x20 (walk (topItems pdu))) contextOf) ∙ items-some 0x20 (topItems pdu) rq-items)
       (both-of _ _ (r .good) (ap distinct (r .ids-are) ∙ items-distinct 0x20 (topItems pdu) rq-items))
 
   -- the fields are good contents, with the same contexts
@@ -198,7 +180,7 @@ module _ (pdu : List ℕ) (e : kindOf pdu ≡ 1) where
   unfolding rqGood applicationOf sheetIn
   rq-again-good =
       both-of (titleOk (calledOf pdu)) _ (left-of (titleOk (calledOf pdu)) _ (right-of (leb 68 (pduLength pdu)) _ rq-parts))
-      (both-of (titleOk (callingOf pdu)) _ (left-of (titleOk (callingOf pdu)) _ rq-titles) (both-of _ _ (top-name 0x20 (topItems pdu) rq-items refl refl refl) (contexts-proposal (proposed pdu) rq-contexts)))
+      (both-of (titleOk (callingOf pdu)) _ (left-of (titleOk (callingOf pdu)) _ rq-titles) (both-of _ _ (top-name 0x20 (topItems pdu) rq-items refl refl refl refl) (contexts-proposal (proposed pdu) rq-contexts)))
 
   pub rq-again-contexts : contextsIn (sheetIn 1 pdu) ≡ proposed pdu
   unfolding sheetIn
@@ -219,7 +201,7 @@ module _ (pdu : List ℕ) (e : kindOf pdu ≡ 1) where
       let l = frame-long (rqFrame (rqRead pdu)) (omega arith) refl in
       let s = rq-listed .short in
       let x = ap (λ (cs : List Context). length (itemsBytes 0x20 (map contextBody cs))) rq-again-contexts in
-      let t = top-short 0x20 (topItems pdu) rq-items refl refl refl in
+      let t = top-short 0x20 (topItems pdu) rq-items refl refl refl refl in
       let z = length-drop 74 pdu in
       omega arith
 
@@ -249,7 +231,7 @@ module _ (pdu : List ℕ) (e : kindOf pdu ≡ 2) where
   unfolding allAnsweredOk answered ids
   ac-answers =
       let r = ac-listed in
-      both-of _ _ (ap (leb 1) (length-map (bodies 0x21 (walk (topItems pdu))) answerOf) ∙ some-context 0x21 (walk (topItems pdu)) (items-kept 0x21 (topItems pdu) ac-items))
+      both-of _ _ (ap (leb 1) (length-map (bodies 0x21 (walk (topItems pdu))) answerOf) ∙ items-some 0x21 (topItems pdu) ac-items)
       (both-of _ _ (r .good) (ap distinct (r .ids-are) ∙ items-distinct 0x21 (topItems pdu) ac-items))
 
   echoed-64 : length (take 64 (drop 10 pdu)) ≡ 64
@@ -258,7 +240,7 @@ module _ (pdu : List ℕ) (e : kindOf pdu ≡ 2) where
   pub ac-again-good : acGood (acRead pdu) ≡ true
   unfolding acGood applicationOf sheetIn
   ac-again-good =
-      both-of _ _ (eq-eqb (length (take 64 (drop 10 pdu))) 64 echoed-64) (both-of _ _ (top-name 0x21 (topItems pdu) ac-items refl refl refl) (answered-answers (answered pdu) ac-answers))
+      both-of _ _ (eq-eqb (length (take 64 (drop 10 pdu))) 64 echoed-64) (both-of _ _ (top-name 0x21 (topItems pdu) ac-items refl refl refl refl) (answered-answers (answered pdu) ac-answers))
 
   pub ac-again-answers : answersIn (sheetIn 2 pdu) ≡ answered pdu
   unfolding sheetIn
@@ -271,7 +253,7 @@ module _ (pdu : List ℕ) (e : kindOf pdu ≡ 2) where
       let l = frame-long (acFrame (acRead pdu)) echoed-64 refl in
       let s = ac-listed .short in
       let x = ap (λ (cs : List Answered). length (itemsBytes 0x21 (map answerBody cs))) ac-again-answers in
-      let t = top-short 0x21 (topItems pdu) ac-items refl refl refl in
+      let t = top-short 0x21 (topItems pdu) ac-items refl refl refl refl in
       let z = length-drop 74 pdu in
       omega arith
 

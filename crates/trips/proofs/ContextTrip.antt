@@ -5,18 +5,18 @@ use native.Mathlib.Omega.{arith}
 use mathlib.Core.Bool.{true, _&&_}
 use mathlib.Core.List.{List, [], _∷_, map, append-nil}
 use mathlib.Core.Path.{_≡_, refl, sym, ap, _∙_}
-use lib.ListN.{length, drop, length-append}
+use lib.ListN.{length, drop, replicate, length-append}
 use lib.Dec.{leb}
 use borrow.Author.Tests.{le-leb}
-use Rattle.laws.specs.Lists.{all}
+use Rattle.laws.specs.Lists.{all, among}
 use Rattle.laws.proofs.Booleans.{left-of, right-of, both-of}
 use Rattle.names.specs.Name.{nameOk}
-use Rattle.items.specs.Items.{Walk, done, item, walk, filled, bodies, first, keeps}
+use Rattle.items.specs.Items.{Walk, done, item, walk, filled, bodies, first, types, only, goodBodies, holds}
 use Rattle.items.specs.Wire.{itemBytes, itemsBytes}
 use Rattle.items.proofs.WalkLaws.{walk-nil}
-use Rattle.items.proofs.WireLaws.{item-length, walk-item, walk-last, run, items-cons, walk-items, bodies-run, keeps-run}
+use Rattle.items.proofs.WireLaws.{item-length, walk-item, walk-last, run, items-cons, walk-items, bodies-run, written}
 use Rattle.octets.specs.Octets.{odd}
-use Rattle.contents.specs.Contents.{subGood, subNext, subRule, good20H, one, transferOk as walkedOk, good21H, bodyId}
+use Rattle.contents.specs.Contents.{contextKnown, named, contextOrder, subsOk, good20H, one, transferOk as walkedOk, good21H, bodyId}
 use Rattle.sheets.specs.Contexts.{Context, Answered, contextId, answeredId, contextOk, answeredOk, transferOk}
 use Rattle.reading.specs.Associate.{contextOf, answerOf}
 use Rattle.writing.specs.Wire.{contextBody, answerBody}
@@ -38,18 +38,23 @@ context-back c h =
     let b : bodies 0x40 (walk (drop 4 (contextBody c))) ≡ c .transfers = ap (bodies 0x40) w ∙ (bodies-run 0x40 (c .transfers) done ∙ append-nil (c .transfers)) in
     λ i. record { id = c .id; abstr = a i; transfers = b i }
 
-transfers-keep : (xs : List (List ℕ)) → leb 1 (length xs) ≡ true → all nameOk xs ≡ true → keeps subRule 1 (run 0x40 xs done) ≡ true
-unfolding keeps run subGood subNext
-transfers-keep [] p q = p
-transfers-keep (x ∷ xs) p q = let e : nameOk x ≡ true = left-of _ _ q in rw e (keeps-run subRule 0x40 2 xs done (right-of (nameOk x) _ q) refl)
+-- a 30H and 40Hs
+subs-held : (x : List ℕ) (xs : List (List ℕ)) → nameOk x ≡ true → all nameOk xs ≡ true → holds contextKnown named (contextOrder (length xs)) (item 0x30 x (run 0x40 xs done)) ≡ true
+unfolding goodBodies bodies filled types only among
+subs-held x xs n q =
+    ap (λ (l : List ℕ). holds contextKnown named (0x30 ∷ l) (item 0x30 x (run 0x40 xs done))) (sym (append-nil (replicate (length xs) 0x40)))
+    ∙ written contextKnown named 0x30 0x40 x xs done refl refl n q refl refl
+
+subs-written : (x : List ℕ) (xs : List (List ℕ)) → nameOk x ≡ true → leb 1 (length xs) ≡ true → all nameOk xs ≡ true → subsOk (item 0x30 x (run 0x40 xs done)) ≡ true
+unfolding subsOk bodies
+subs-written x xs n p q = rw (bodies-run 0x40 xs done, append-nil xs) (both-of _ _ p (subs-held x xs n q))
 
 context-good : (c : Context) → contextOk c ≡ true → length (contextBody c) < 65536 → good20H (contextBody c) ≡ true
-unfolding good20H contextOk contextBody keeps subGood subNext
+unfolding good20H contextOk contextBody
 context-good c k h =
     let k₂ : (nameOk (c .abstr) && (leb 1 (length (c .transfers)) && all nameOk (c .transfers))) ≡ true = right-of (odd (c .id)) _ k in
     let k₃ : (leb 1 (length (c .transfers)) && all nameOk (c .transfers)) ≡ true = right-of (nameOk (c .abstr)) _ k₂ in
-    let w : keeps subRule 0 (walk (drop 4 (contextBody c))) ≡ true
-    = ap (keeps subRule 0) (walk-context c h) ∙ both-of (nameOk (c .abstr)) _ (left-of _ _ k₂) (transfers-keep (c .transfers) (left-of _ _ k₃) (right-of (leb 1 (length (c .transfers))) _ k₃)) in
+    let w : subsOk (walk (drop 4 (contextBody c))) ≡ true = ap subsOk (walk-context c h) ∙ subs-written (c .abstr) (c .transfers) (left-of _ _ k₂) (left-of _ _ k₃) (right-of (leb 1 (length (c .transfers))) _ k₃) in
     both-of _ _ (le-leb 4 (length (contextBody c)) (omega arith)) (both-of (odd (c .id)) _ (left-of _ _ k) w)
 
 -- ---- an answer
@@ -64,10 +69,11 @@ answer-back c h =
     λ i. record { id = c .id; result = c .result; transfer = x i }
 
 answer-good : (c : Answered) → answeredOk c ≡ true → length (answerBody c) < 65536 → good21H (answerBody c) ≡ true
-unfolding good21H answeredOk transferOk answerBody walkedOk one filled bodies
+unfolding good21H answeredOk transferOk answerBody walkedOk one filled bodies goodBodies
 answer-good c k h =
     let k₂ : (leb (c .result) 4 && transferOk (c .result) (c .transfer)) ≡ true = right-of (odd (c .id)) _ k in
-    let w : walkedOk (c .result) (walk (drop 4 (answerBody c))) ≡ true = ap (walkedOk (c .result)) (walk-answer c h) ∙ right-of (leb (c .result) 4) _ k₂ in
+    let n : nameOk (c .transfer) ≡ true = right-of (leb (c .result) 4) _ k₂ in
+    let w : walkedOk (c .result) (walk (drop 4 (answerBody c))) ≡ true = ap (walkedOk (c .result)) (walk-answer c h) ∙ rw n in
     both-of _ _ (le-leb 4 (length (answerBody c)) (omega arith)) (both-of (odd (c .id)) _ (left-of _ _ k) (both-of (leb (c .result) 4) _ (left-of _ _ k₂) w))
 
 -- ---- lists of them: good, read back, and with the same IDs

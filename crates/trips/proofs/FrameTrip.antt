@@ -2,21 +2,21 @@
 -- Assumes nothing.
 use Prim.Native.Nat.{ℕ, _+_, _≤_, _<_}
 use native.Mathlib.Omega.{arith}
-use mathlib.Core.Bool.{true, false}
+use mathlib.Core.Bool.{Bool, true, false, or-true}
 use mathlib.Core.List.{List, [], _∷_, _++_, map, append-nil}
-use mathlib.Core.Path.{_≡_, refl, ap, _∙_}
-use lib.ListN.{length, take, drop, length-append}
+use mathlib.Core.Path.{_≡_, refl, sym, ap, _∙_}
+use lib.ListN.{length, take, drop, replicate, length-append}
 use lib.Seq.{take-at, drop-at}
 use lib.Dec.{leb, eqb}
 use borrow.Author.Tests.{le-leb, eq-eqb}
-use Rattle.laws.specs.Lists.{all, distinct, joined}
-use Rattle.laws.proofs.Booleans.{left-of, right-of, both-of, held}
+use Rattle.laws.specs.Lists.{all, among, distinct, joined}
+use Rattle.laws.proofs.Booleans.{both-of}
 use Rattle.octets.specs.Octets.{be16, be32}
 use Rattle.names.specs.Name.{nameOk}
-use Rattle.items.specs.Items.{Walk, done, item, step, walkIn, walk, filled, bodies, first, place, keeps}
+use Rattle.items.specs.Items.{Walk, done, item, step, walkIn, walk, filled, bodies, first, place, types, only, goodBodies, holds}
 use Rattle.items.specs.Wire.{itemBytes, itemsBytes}
-use Rattle.items.proofs.WireLaws.{item-length, walk-item, walk-last, run, walk-items, bodies-run, bodies-past, keeps-run}
-use Rattle.contents.specs.Contents.{one, good50H, contextGood, topGood, topNext, topRule, bodyId, ids, itemsOk, maximumIn}
+use Rattle.items.proofs.WireLaws.{item-length, walk-item, walk-last, run, walk-items, bodies-run, bodies-past, written}
+use Rattle.contents.specs.Contents.{topKnown, one, userGood, good50H, contextGood, topGood, topOrder, topOk, bodyId, ids, itemsOk, maximumIn}
 use Rattle.judging.specs.Pdu.{typeOf, pduLength, versionOf, topItems, whole}
 use Rattle.writing.specs.Wire.{pduBytes, Frame, frameItems, frameBytes, ourUser}
 
@@ -39,47 +39,39 @@ module _ (kind : ℕ) (body : List ℕ) where
 
 -- the user information that we send
 user-good : good50H (joined ourUser) ≡ true
-unfolding good50H one filled bodies walk walkIn step ourUser itemBytes be16
+unfolding good50H userGood one filled bodies goodBodies walk walkIn step ourUser itemBytes be16
 user-good = refl
 
 user-small : length (joined ourUser) ≡ 8
 unfolding ourUser itemBytes
 user-small = refl
 
--- ---- the rule for the items, at a context of type k
-module _ (k : ℕ) (a : eqb k 0x10 ≡ false) where
-  top-good : (x : List ℕ) → topGood k k x ≡ contextGood k x
+-- ---- a 10H, contexts of type k and our 50H
+module _ (k : ℕ) (b : eqb 0x10 k ≡ false) (c : eqb 0x50 k ≡ false) where
+  top-bodies : (x : List ℕ) (bs : List (List ℕ)) (u : List ℕ) → bodies k (item 0x10 x (run k bs (item 0x50 u done))) ≡ bs
+  unfolding bodies
+  top-bodies x bs u = rw b (bodies-run k bs (item 0x50 u done) ∙ rw c (append-nil bs))
+
+  context-good : eqb k 0x10 ≡ false → (x : List ℕ) → topGood k k x ≡ contextGood k x
   unfolding topGood
-  top-good x = simp (a, eq-eqb k k refl)
+  context-good a x = simp (a, eq-eqb k k refl)
 
-  top-next-1 : topNext k 1 k ≡ 2
-  unfolding topNext
-  top-next-1 = simp (a, eq-eqb k k refl)
+  top-good : eqb k 0x10 ≡ false → (bs : List (List ℕ)) → all (contextGood k) bs ≡ true → all (topGood k k) bs ≡ true
+  top-good a bs q = ap (λ (p : List ℕ → Bool). all p bs) (λ i x. context-good a x i) ∙ q
 
-  top-next-2 : topNext k 2 k ≡ 2
-  unfolding topNext
-  top-next-2 = simp (a, eq-eqb k k refl)
+  top-held : eqb k 0x10 ≡ false → (x : List ℕ) (bs : List (List ℕ)) → nameOk x ≡ true → all (contextGood k) bs ≡ true
+      → holds (topKnown k) (topGood k) (topOrder k (length bs)) (item 0x10 x (run k bs (item 0x50 (joined ourUser) done))) ≡ true
+  unfolding topGood goodBodies bodies filled types only among
+  top-held a x bs n q =
+      let i : among k (topKnown k) ≡ true = rw (eq-eqb k k refl) (or-true (eqb k 0x10)) in
+      let o : only (topKnown k) (types (item 0x50 (joined ourUser) done)) ≡ 0x50 ∷ [] = rw c in
+      let g : goodBodies (topKnown k) (topGood k) (item 0x50 (joined ourUser) done) ≡ true = rw (c, user-good) in
+      let h = written (topKnown k) (topGood k) 0x10 k x bs (item 0x50 (joined ourUser) done) refl i n (top-good a bs q) refl g in
+      ap (λ (l : List ℕ). holds (topKnown k) (topGood k) (0x10 ∷ (replicate (length bs) k ++ l)) (item 0x10 x (run k bs (item 0x50 (joined ourUser) done)))) (sym o) ∙ h
 
-  all-good : (bs : List (List ℕ)) → all (contextGood k) bs ≡ true → all (topGood k k) bs ≡ true
-  all-good [] q = refl
-  all-good (x ∷ bs) q = both-of _ _ (top-good x ∙ left-of _ _ q) (all-good bs (right-of (contextGood k x) _ q))
-
-  contexts-keep : (bs : List (List ℕ)) (v : Walk) → leb 1 (length bs) ≡ true → all (contextGood k) bs ≡ true → keeps (topRule k) 1 (run k bs v) ≡ keeps (topRule k) 2 v
-  unfolding keeps run
-  contexts-keep [] v p q = absurd (held false p)
-  contexts-keep (x ∷ bs) v p q =
-      let g : topGood k k x ≡ true = top-good x ∙ left-of _ _ q in
-      rw (g, top-next-1) (keeps-run (topRule k) k 2 bs v (all-good bs (right-of (contextGood k x) _ q)) top-next-2)
-
-  -- the 10H and the 50H
-  module _ (b : eqb 0x10 k ≡ false) (c : eqb 0x50 k ≡ false) where
-    keeps-last : keeps (topRule k) 2 (item 0x50 (joined ourUser) done) ≡ true
-    unfolding keeps topGood topNext
-    keeps-last = rw (c, user-good)
-
-    keeps-first : (x : List ℕ) (v : Walk) → nameOk x ≡ true → keeps (topRule k) 0 (item 0x10 x v) ≡ keeps (topRule k) 1 v
-    unfolding keeps topGood topNext
-    keeps-first x v n = rw n
+  top-written : eqb k 0x10 ≡ false → (x : List ℕ) (bs : List (List ℕ)) → nameOk x ≡ true → leb 1 (length bs) ≡ true → all (contextGood k) bs ≡ true → topOk k (item 0x10 x (run k bs (item 0x50 (joined ourUser) done))) ≡ true
+  unfolding topOk
+  top-written a x bs n p q = rw (top-bodies x bs (joined ourUser)) (both-of _ _ p (top-held a x bs n q))
 
 -- ---- a frame that fits: k is the type of its contexts
 pub record Fits (f : Frame) : Type 0 where
@@ -156,11 +148,8 @@ module _ (f : Frame) (w : Fits f) where
 
   module _ (a : eqb 0x10 (f .context) ≡ false) (b : eqb 0x50 (f .context) ≡ false) where
     pub at-bodies : bodies (f .context) (walk (topItems (frameBytes f))) ≡ f .bodies
-    unfolding bodies
     at-bodies =
-        let e : bodies (f .context) (item 0x50 (joined (f .user)) done) ≡ [] = rw b in
-        let g : bodies (f .context) (item 0x10 (f .application) (run (f .context) (f .bodies) (item 0x50 (joined (f .user)) done))) ≡ bodies (f .context) (run (f .context) (f .bodies) (item 0x50 (joined (f .user)) done)) = rw a in
-        ap (bodies (f .context)) walked ∙ (g ∙ (bodies-run (f .context) (f .bodies) (item 0x50 (joined (f .user)) done) ∙ (ap (λ (l : List (List ℕ)). f .bodies ++ l) e ∙ append-nil (f .bodies))))
+        ap (bodies (f .context)) walked ∙ top-bodies (f .context) a b (f .application) (f .bodies) (joined (f .user))
 
   pub at-maximum : eqb (f .context) 0x50 ≡ false → maximumIn (topItems (frameBytes f)) ≡ 16384
   unfolding maximumIn bodies walk walkIn step ourUser itemBytes be16 be32
@@ -174,10 +163,6 @@ module _ (f : Frame) (w : Fits f) where
       → all (contextGood (f .context)) (f .bodies) ≡ true → distinct (map bodyId (f .bodies)) ≡ true → itemsOk (f .context) (topItems (frameBytes f)) ≡ true
   unfolding itemsOk ids
   frame-items-ok a b c n p q d =
-      let k : ℕ = f .context in
-      let e : keeps (topRule (f .context)) 2 (item 0x50 (joined (f .user)) done) ≡ true = ap (λ (u : List (List ℕ)). keeps (topRule (f .context)) 2 (item 0x50 (joined u) done)) (w .user) ∙ keeps-last (f .context) a b c in
-      both-of _ _
-      (ap (keeps (topRule (f .context)) 0) walked
-      ∙ (keeps-first (f .context) a b c (f .application) (run (f .context) (f .bodies) (item 0x50 (joined (f .user)) done)) n
-      ∙ (contexts-keep (f .context) a (f .bodies) (item 0x50 (joined (f .user)) done) p q ∙ e)))
+      let z : item 0x10 (f .application) (run (f .context) (f .bodies) (item 0x50 (joined (f .user)) done)) ≡ item 0x10 (f .application) (run (f .context) (f .bodies) (item 0x50 (joined ourUser) done)) = ap (λ (u : List (List ℕ)). item 0x10 (f .application) (run (f .context) (f .bodies) (item 0x50 (joined u) done))) (w .user) in
+      both-of _ _ (ap (topOk (f .context)) (walked ∙ z) ∙ top-written (f .context) b c a (f .application) (f .bodies) n p q)
       (ap (λ (l : List (List ℕ)). distinct (map bodyId l)) (at-bodies b c) ∙ d)

@@ -5,7 +5,6 @@ pub mod RqTrip
 pub mod AcTrip
 pub mod SmallTrip
 pub mod SentTrip
-pub mod MetTrip
 pub mod Share
 pub mod Again
 pub mod CallTrip

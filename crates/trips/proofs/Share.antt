@@ -84,6 +84,6 @@ unfolding walk
 three t u v s a b c f = let w = weight-in (length s) s f in let l = three-in t u v a b c (walk s) in omega arith
 
 -- the first item of a type, where there is one
-pub first-share : (t : ℕ) (bs : List (List ℕ)) → leb 1 (length bs) ≡ true → 4 + length (first bs) ≤ length (itemsBytes t bs)
-first-share t [] n = absurd (held false n)
+pub first-share : (t : ℕ) (bs : List (List ℕ)) → 1 ≤ length bs → 4 + length (first bs) ≤ length (itemsBytes t bs)
+first-share t [] n = absurd (omega arith)
 first-share t (b ∷ bs) n = let l = items-cons t b bs in omega arith

@@ -1,5 +1,5 @@
 -- `contents::sub_good` meets its contract. Assumes nothing.
-use Rattle.contents.specs.Contents.{subGood}
+use Rattle.contents.specs.Inner.{subGood}
 use Rattle.laws.proofs.Tests.{decide}
 use Rattle.contents.proofs.context.sub_good.Statement.{statement}
 use Rattle.contents.proofs.context.sub_good.Tie as tie

@@ -1,0 +1,90 @@
+-- Worked examples of the items' order, and of which are known where: antt computes both sides.
+-- Assumes nothing.
+use Prim.Native.Nat.{ℕ}
+use mathlib.Core.Bool.{true, not, _&&_}
+use mathlib.Core.List.{List, [], _∷_, _++_}
+use mathlib.Core.Path.{_≡_, refl}
+use Rattle.laws.specs.Lists.{all, among, distinct}
+use Rattle.laws.specs.Text.{bytes}
+use Rattle.octets.specs.Octets.{be16}
+use Rattle.names.specs.Name.{nameOk}
+use Rattle.items.specs.Items.{step, walkIn, walk, filled, bodies, types, only, goodBodies, holds}
+use Rattle.items.specs.Wire.{itemBytes}
+use Rattle.contents.specs.Contents.{one, subsOk, good20H, transferOk, good21H, userGood, good50H, contextGood, topGood, topOk, ids, itemsOk}
+
+-- an item of a type whose body is the name "1"
+abbrev named : ℕ → List ℕ
+named t = itemBytes t (bytes "1")
+
+abbrev context : ℕ → List ℕ → List ℕ
+context id subs = itemBytes 0x20 (id ∷ 0 ∷ 0 ∷ 0 ∷ subs)
+
+abbrev proposed : ℕ → List ℕ
+proposed id = context id (named 0x30 ++ named 0x40)
+
+abbrev answer : List ℕ → List ℕ
+answer subs = itemBytes 0x21 (1 ∷ 0 ∷ 0 ∷ 0 ∷ subs)
+
+abbrev maximum : List ℕ
+maximum = itemBytes 0x51 (0 ∷ 0 ∷ 0x40 ∷ 0 ∷ [])
+
+abbrev user : List ℕ
+user = itemBytes 0x50 maximum
+
+-- ---- items of an RQ
+abbrev good : List (List ℕ)
+good =
+    -- a 30H at the top is of another type
+    (named 0x10 ++ (named 0x30 ++ (proposed 1 ++ user)))
+    -- a 21H in an RQ too: neither its body nor its ID counts
+    ∷ (named 0x10 ++ (proposed 1 ++ (answer [] ++ user)))
+    -- what stands in a skipped item is not looked at: a 10H, and a 20H that passes the end
+    ∷ (named 0x10 ++ (proposed 1 ++ (user ++ itemBytes 0xF0 (named 0x10 ++ (0x20 ∷ 0 ∷ 0xFF ∷ 0xFF ∷ 1 ∷ [])))))
+    -- a 10H inside a 50H is not a second one
+    ∷ (named 0x10 ++ (proposed 1 ++ itemBytes 0x50 (named 0x10 ++ maximum)))
+    ∷ []
+
+abbrev bad : List (List ℕ)
+bad =
+    -- nothing at all
+    []
+    -- a context behind the 50H
+    ∷ (named 0x10 ++ (proposed 1 ++ (user ++ proposed 3)))
+    -- a 21H is no context of an RQ
+    ∷ (named 0x10 ++ (answer (named 0x40) ++ user))
+    -- the only 50H stands in a skipped item
+    ∷ (named 0x10 ++ (proposed 1 ++ itemBytes 0xF0 user))
+    -- a skipped item that passes the end by one byte
+    ∷ (named 0x10 ++ (proposed 1 ++ (user ++ (0xF0 ∷ 0 ∷ 0 ∷ 2 ∷ 0 ∷ []))))
+    -- the 30H between two 40H
+    ∷ (named 0x10 ++ (context 1 (named 0x40 ++ (named 0x30 ++ named 0x40)) ++ user))
+    -- two 30H
+    ∷ (named 0x10 ++ (context 1 (named 0x30 ++ (named 0x30 ++ named 0x40)) ++ user))
+    -- the second 40H has no name
+    ∷ (named 0x10 ++ (context 1 (named 0x30 ++ (named 0x40 ++ itemBytes 0x40 (bytes "1."))) ++ user))
+    -- a 20H of three bytes
+    ∷ (named 0x10 ++ (itemBytes 0x20 (1 ∷ 0 ∷ 0 ∷ []) ++ user))
+    -- a second 51H, of another length
+    ∷ (named 0x10 ++ (proposed 1 ++ itemBytes 0x50 (maximum ++ itemBytes 0x51 (0 ∷ 0 ∷ 0 ∷ []))))
+    ∷ []
+
+-- ---- items of an AC
+abbrev good-answers : List (List ℕ)
+good-answers =
+    -- inside a 21H a 30H is of another type
+    (named 0x10 ++ (answer (itemBytes 0x30 [] ++ named 0x40) ++ user))
+    -- and in an AC a 20H is
+    ∷ (named 0x10 ++ (context 2 [] ++ (answer (named 0x40) ++ user)))
+    ∷ []
+
+abbrev bad-answers : List (List ℕ)
+bad-answers =
+    -- a 20H is no context of an AC
+    (named 0x10 ++ (proposed 1 ++ user))
+    -- two 40H
+    ∷ (named 0x10 ++ (answer (named 0x40 ++ named 0x40) ++ user))
+    ∷ []
+
+pub judged : (all (itemsOk 0x20) good && (all (λ s. not (itemsOk 0x20 s)) bad && (all (itemsOk 0x21) good-answers && all (λ s. not (itemsOk 0x21 s)) bad-answers))) ≡ true
+unfolding itemsOk topOk subsOk one good20H transferOk good21H userGood good50H contextGood topGood ids step walkIn walk filled bodies types only goodBodies holds itemBytes nameOk be16 among distinct
+judged = refl
