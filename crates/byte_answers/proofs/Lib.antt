@@ -1,4 +1,0 @@
-pub mod Contents
-pub mod Items
-pub mod Octets
-pub mod Titles
