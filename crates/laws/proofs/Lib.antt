@@ -4,4 +4,5 @@ pub mod Places
 pub mod Records
 pub mod Same
 pub mod Below
+pub mod Refusals
 pub mod Agree
