@@ -9,7 +9,7 @@ use lib.Seq.{drop-nil}
 use Rattle.framing.specs.Runs.{Ran, stop, after}
 use Rattle.framing.specs.Host as host
 use Rattle.framing.specs.Host.{Entry, Hosted, HostedScript, One.one}
-use Rattle.association.specs.Events.{Local.plain}
+use Rattle.association.specs.Events.{transportIndication, transportClosed}
 use Rattle.association.specs.Machine.{Seen}
 use Rattle.demand.specs.Calls.{Lent, leaves, fresh, machine, boxOf, wanted}
 use Rattle.demand.proofs.Same.{At}
@@ -56,12 +56,12 @@ ends t =
 -- ---- the program
 
 module _ (g o : List ℕ) (hg : 16390 ≤ length g) (ho : 16390 ≤ length o) where
-  pub program : {t : Lent} → Listened (given (fresh g o) 5) t → Ended (fresh g o) (given t 17)
+  pub program : {t : Lent} → Listened (given (fresh g o) transportIndication) t → Ended (fresh g o) (given t transportClosed)
   program (listen.at-end {bs = bs} {t = t} f) =
       let h = goes-on f .goes [] (after (machine .receive t one [] .seen) (stop (leaves (offering t [])))) (ends t) in
-      listen.whole bs _ (host.gives one (plain 5) (host.feeds one (bs ∷ []) h (host.gives one (plain 17) host.nothing))) refl
+      listen.whole bs _ (host.gives one transportIndication (host.feeds one (bs ∷ []) h (host.gives one transportClosed host.nothing))) refl
   program (listen.too-many f) =
-      let h = calls-within (at-given (fresh g o) (at-fresh g o hg ho) (plain 5)) f .1 in
+      let h = calls-within (at-given (fresh g o) (at-fresh g o hg ho) transportIndication) f .1 in
       listen.long f (omega (arith, h)) refl
 
   -- and such a host comes to where Table 9-10 leads when the whole input is framed at once

@@ -7,6 +7,7 @@ use libc::STDOUT_FILENO;
 ghost use mathlib.Core.Path.{_≡_};
 ghost use mathlib.Core.Bool.{cond};
 ghost use Prim.Native.Nat.{_+_, _-_, min};
+ghost use Rattle.association.specs.Events.{Local.plain};
 ghost use Rattle.listen.specs.Window.{unreadOf, offerOf, pastOf, Filled};
 ghost use Rattle.listen.specs.Listen.{lent, given, Listened};
 
@@ -160,7 +161,7 @@ fn listen(a: Assoc, gather: &mut [u8], piece: &mut [u8], out: &mut [u8]) -> Asso
 
 // Gives a local event. The record is lent for it, and read again.
 fn give(a: Assoc, number: u8, gather: &[u8], out: &mut [u8]) -> Assoc
-    ensures { λ r. ⌜ lent r (now (gather .entry)) (now (out .exit)) ≡ given (lent a (now (gather .entry)) (now (out .entry))) number ⌝ }
+    ensures { λ r. ⌜ lent r (now (gather .entry)) (now (out .exit)) ≡ given (lent a (now (gather .entry)) (now (out .entry))) (plain number) ⌝ }
 {
     let mut b = a;
     let r = lent::event_lent(&mut b, number, gather, out);

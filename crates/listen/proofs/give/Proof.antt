@@ -111,7 +111,7 @@ module _ {M : Type 1} (𝓤 : URA M) (H : Heap 𝓤) (A : Atoms 𝓤) (W : Given
   goes : (l ν : ℕ) (δ : GName) → ent 𝓤 (⋆ 𝓤 H A ((‵ (flft (ν ∷ []) fullShare) ⊛ toks) ∷ ‵ (given-up l ν δ) ∷ [])) (Lent 𝓤 H A at-mem run .pre (to-lent l ν δ))
   goes l ν δ = qed W ((‵ (flft (ν ∷ []) fullShare) ⊛ toks) ∷ ‵ (given-up l ν δ) ∷ []) ∵ join ! $ frame ! $ done !
 
-  exits : (k : Assoc) (os : List ℕ) → Is T.the-row k (T′.lowered k ∷ []) → length os ≡ length (xo .now) → lent-of k (xg .now) os ≡ given-of (lent-of h (xg .now) (xo .now)) e → ent 𝓤 (⋆ 𝓤 H A (toks ∷ ‵ G ∷ ‵ (finally u8 (xo .name) os) ∷ [])) (Post (T′.lowered k))
+  exits : (k : Assoc) (os : List ℕ) → Is T.the-row k (T′.lowered k ∷ []) → length os ≡ length (xo .now) → lent-of k (xg .now) os ≡ given-of (lent-of h (xg .now) (xo .now)) (bare e) → ent 𝓤 (⋆ 𝓤 H A (toks ∷ ‵ G ∷ ‵ (finally u8 (xo .name) os) ∷ [])) (Post (T′.lowered k))
   exits k os ik lo made =
       qed W (toks ∷ ‵ G ∷ ‵ (finally u8 (xo .name) os) ∷ []) ∵
       suffices ! _ (ends-at 𝓤 H A give.ended stayed (give.clauses 𝓤 H A at-mem run) W ((κs, qs, tt, (h, xs), (T′.lowered h ∷ [], ss)), tt) (T′.lowered k) k (tt, (tt, (tt, (os, tt)))) (tt, (tt, (tt, (lo, tt))))) $ says ! made $ frame ! $
