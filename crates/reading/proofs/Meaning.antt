@@ -108,7 +108,7 @@ application-stands x = ap (take (length (first (bodies 0x10 (walk (drop 74 x))))
 
 -- ---- the sheet
 module _ (kind : ℕ) (x s : List ℕ) (r : Associate) (s′ : List ℕ) (w : Read kind x s r s′) where
-  -- "Nothing is written when refused"
+  -- "Every refusal .. output stay unchanged": here the sheet
   pub untouched : (r .refusal ≡ 0 → ⊥) → s′ ≡ s
   unfolding associateOf filling front
   untouched n = w .sheet ∙ go (eqb (kindOf x) kind) (leb (length (sheetIn kind x)) (length s)) (w .answer)
