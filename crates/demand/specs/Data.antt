@@ -1,4 +1,4 @@
--- "data is indicated exactly for a valid P-DATA-TF completed in Sta6 or Sta7"
+-- Demand 3: "data is indicated exactly for a valid P-DATA-TF completed in Sta6 or Sta7".
 use Prim.Native.Nat.{ℕ}
 use mathlib.Core.Bool.{Bool, false, _&&_, _||_}
 use mathlib.Core.List.{List, []}
@@ -16,7 +16,7 @@ use Rattle.association.specs.Record.{idle}
 use Rattle.association.specs.Events.{Local}
 use Rattle.association.specs.Machine.{Seen, upper}
 
--- "DT-2: Send P-DATA indication primitive"; "AR-6: Issue P-DATA indication"
+-- DT-2: "Send P-DATA indication primitive"; AR-6: "Issue P-DATA indication"
 unfoldable pub indicates : ℕ → Bool
 indicates action = eqb action DT-2 || eqb action AR-6
 

@@ -1,4 +1,3 @@
 pub mod Numbers
 pub mod Fields
-pub mod Titles
 pub mod Steps

@@ -1,6 +1,6 @@
 // The check of a sought title against our own.
 use titles::Known;
-ghost use Rattle.feohanna.specs.Titles.{Checked};
+ghost use Rattle.titles.specs.Own.{Checked};
 
 #[no_mangle]
 pub extern "C" fn feo_raw_title_known(own: &[u8], sought: &[u8], known: &mut u8) -> u8

@@ -42,7 +42,7 @@ pub record Calls (C E T : Type 0) : Type 1 where
 module _ {C E T : Type 0} (D : Calls C E T) where
   open Calls D using (S, receive, onEvent)
 
-  -- ---- the host that cuts: "offer unused bytes again before the next local event", and before the next piece
+  -- ---- the host that cuts: "offer unused bytes again before the next local event" (demand 3), and before the next piece
 
   abbrev pub feedBy : C → (List ℕ → S → Ran T S) → List ℕ → S → Ran T S
   feedBy c go [] s = stop s

@@ -1,14 +1,14 @@
--- Worked examples of the rules, by the errors that they shut out: antt computes both sides.
+-- Worked examples of the rules, by the errors that they shut out: antt computes both sides. Each reserved byte is not zero in one of them.
 -- Assumes nothing.
 use Prim.Native.Nat.{ℕ}
 use mathlib.Core.Bool.{Bool, true, false, _&&_}
 use mathlib.Core.List.{List, [], _∷_, _++_}
 use mathlib.Core.Path.{_≡_, refl}
-use lib.ListN.{length, replicate}
+use lib.ListN.{length, take, replicate}
 use lib.Dec.{eqb}
 use Rattle.laws.specs.Lists.{among, distinct}
 use Rattle.laws.specs.Text.{bytes}
-use Rattle.octets.specs.Octets.{four, be16, be32}
+use Rattle.octets.specs.Octets.{two, four, be16, be32}
 use Rattle.names.specs.Name.{nameOk}
 use Rattle.titles.specs.Title.{titleOk}
 use Rattle.items.specs.Items.{step, walkIn, walk, filled, bodies, types, only, goodBodies, holds}
@@ -38,23 +38,27 @@ ac items = frame 2 1 (replicate 16 0) items
 abbrev name : List ℕ
 name = bytes "1.2.840.10008.1.1"
 
+-- an item with a reserved byte that is not zero
+abbrev item : ℕ → List ℕ → List ℕ
+item t body = t ∷ 0xFF ∷ (two (length body) ++ body)
+
 abbrev application : List ℕ
-application = itemBytes 0x10 name
+application = item 0x10 name
 
 abbrev context : ℕ → List ℕ
-context id = itemBytes 0x20 (id ∷ 0xFF ∷ 0xFF ∷ 0xFF ∷ (itemBytes 0x30 name ++ itemBytes 0x40 name))
+context id = item 0x20 (id ∷ 0xFF ∷ 0xFF ∷ 0xFF ∷ (item 0x30 name ++ item 0x40 name))
 
 abbrev answer : ℕ → ℕ → List ℕ
-answer id result = itemBytes 0x21 (id ∷ 0xFF ∷ result ∷ 0xFF ∷ itemBytes 0x40 name)
+answer id result = item 0x21 (id ∷ 0xFF ∷ result ∷ 0xFF ∷ item 0x40 name)
 
 abbrev maximum : List ℕ
-maximum = itemBytes 0x51 (0 ∷ 0 ∷ 0x40 ∷ 0 ∷ [])
+maximum = item 0x51 (0 ∷ 0 ∷ 0x40 ∷ 0 ∷ [])
 
 abbrev user : List ℕ
-user = itemBytes 0x50 maximum
+user = item 0x50 maximum
 
 abbrev unknown : List ℕ
-unknown = itemBytes 0xF0 (1 ∷ 2 ∷ 3 ∷ [])
+unknown = item 0xF0 (1 ∷ 2 ∷ 3 ∷ [])
 
 -- bytes and their kind
 record Case : Type 0 where
@@ -85,8 +89,9 @@ requests =
     ∷ is 0 (rq (application ++ context 1))
     -- IDs: even; twice, also where not adjacent
     ∷ is 0 (rq (application ++ (context 2 ++ user)))
+    ∷ is 0 (rq (application ++ (context 1 ++ (context 1 ++ user))))
     ∷ is 0 (rq (application ++ (context 1 ++ (context 3 ++ (context 1 ++ user)))))
-    -- inside a 20H: a 40H before its 30H; no 40H; an unknown one is skipped; three bytes left over
+    -- inside a 20H: a 40H before its 30H; no 40H; an unknown one is skipped; three bytes left over; a bad name
     ∷ is 0 (rq (application ++ (itemBytes 0x20 (1 ∷ 0 ∷ 0 ∷ 0 ∷ (itemBytes 0x40 name ++ itemBytes 0x30 name)) ++ user)))
     ∷ is 0 (rq (application ++ (itemBytes 0x20 (1 ∷ 0 ∷ 0 ∷ 0 ∷ itemBytes 0x30 name) ++ user)))
     ∷ is 1 (rq (application ++ (itemBytes 0x20 (1 ∷ 0 ∷ 0 ∷ 0 ∷ (unknown ++ (itemBytes 0x30 name ++ (unknown ++ itemBytes 0x40 name)))) ++ user)))
@@ -100,9 +105,11 @@ requests =
     -- titles
     ∷ is 0 (frame 1 1 (bytes "                ") (application ++ (context 1 ++ user)))
     ∷ is 0 (frame 1 1 (replicate 16 0) (application ++ (context 1 ++ user)))
-    -- a remainder of 1 to 3 bytes; one byte more than the PDU-length says, and one less
+    -- a remainder of 1 and of 3 bytes; one byte more than the PDU-length says, and one less
     ∷ is 0 (rq (application ++ (context 1 ++ (user ++ (0 ∷ [])))))
+    ∷ is 0 (rq (application ++ (context 1 ++ (user ++ (0 ∷ 0 ∷ 0 ∷ [])))))
     ∷ is 0 (rq (application ++ (context 1 ++ user)) ++ (0 ∷ []))
+    ∷ is 0 (take 156 (rq (application ++ (context 1 ++ user))))
     ∷ []
 
 abbrev answers : List Case
@@ -112,7 +119,7 @@ answers =
     ∷ is 2 (ac (application ++ (context 2 ++ (answer 1 3 ++ user))))
     -- a 30H in a 21H is skipped
     ∷ is 2 (ac (application ++ (itemBytes 0x21 (1 ∷ 0 ∷ 0 ∷ 0 ∷ (itemBytes 0x30 [] ++ itemBytes 0x40 name)) ++ user)))
-    -- no version bit 0; result 5; no name; two
+    -- no version bit 0; result 5; no name; two 40H; an ID twice
     ∷ is 0 (frame 2 2 title (application ++ (answer 1 0 ++ user)))
     ∷ is 0 (ac (application ++ (answer 1 5 ++ user)))
     ∷ is 0 (ac (application ++ (itemBytes 0x21 (1 ∷ 0 ∷ 3 ∷ 0 ∷ itemBytes 0x40 []) ++ user)))
@@ -128,7 +135,7 @@ others =
     ∷ is 0 (pdu 3 (0 ∷ 2 ∷ 3 ∷ 0 ∷ []))
     ∷ is 0 (pdu 3 (0 ∷ 3 ∷ 1 ∷ 1 ∷ []))
     ∷ is 0 (pdu 3 (0 ∷ 1 ∷ 1 ∷ 1 ∷ 0 ∷ []))
-    -- PDV length 1 and 2; a length that passes the end, FFFFFFFFH too; bits 2 to 7; even ID; no PDV
+    -- PDV length 1, and 2 with bits 2 to 7; two PDVs; a length that passes the end, FFFFFFFFH too; even ID; two bytes left over; no PDV
     ∷ is 0 (pdu 4 (0 ∷ 0 ∷ 0 ∷ 1 ∷ 1 ∷ []))
     ∷ is 4 (pdu 4 (0 ∷ 0 ∷ 0 ∷ 2 ∷ 1 ∷ 0xFC ∷ []))
     ∷ is 4 (pdu 4 (0 ∷ 0 ∷ 0 ∷ 3 ∷ 1 ∷ 3 ∷ 9 ∷ 0 ∷ 0 ∷ 0 ∷ 2 ∷ 255 ∷ 0 ∷ []))

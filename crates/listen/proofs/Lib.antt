@@ -1,2 +1,5 @@
+mod Feeds
+mod Program
+mod WindowLaws
 mod Local
 mod Again

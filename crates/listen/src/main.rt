@@ -5,9 +5,13 @@ use association::Told;
 use libc::STDIN_FILENO;
 use libc::STDOUT_FILENO;
 ghost use mathlib.Core.Path.{_≡_};
-ghost use Prim.Native.Nat.{_<_};
+ghost use mathlib.Core.Bool.{cond};
+ghost use Prim.Native.Nat.{_+_, _-_, min};
+ghost use Rattle.association.specs.Events.{Local.plain};
+ghost use Rattle.listen.specs.Window.{unreadOf, offerOf, pastOf, Filled};
+ghost use Rattle.listen.specs.Listen.{lent, given, Listened};
 
-// What of the piece is not used yet, from `at` to `end`; whether the input has ended; how many calls may still be made.
+// What of the piece is not used yet, from `at` to `end`; whether the input has ended; how many calls may still be made, so that the loop ends whatever is read.
 struct Window {
     at: usize,
     end: usize,
@@ -51,7 +55,9 @@ fn print_line(r: Told, state: u8) {
 }
 
 // Before the first read.
-fn unread() -> Window {
+fn unread() -> Window
+    ensures { λ r. ⌜ r ≡ unreadOf ⌝ }
+{
     Window {
         at: 0,
         end: 0,
@@ -62,7 +68,7 @@ fn unread() -> Window {
 
 // Reads the next piece where all of the last one is used. A read that fails ends the input.
 fn fill(w: Window, piece: &mut [u8]) -> Window
-    ensures { λ r. ⌜ r .turns ≡ w .turns ⌝ }
+    ensures { λ r. ⌜ Filled w (now (piece .entry)) r (now (piece .exit)) ⌝ }
 {
     let at = w.at;
     let end = w.end;
@@ -71,28 +77,22 @@ fn fill(w: Window, piece: &mut [u8]) -> Window
         return w;
     }
     let got = libc::read(STDIN_FILENO, piece);
-    if got <= 0 {
-        return Window {
-            at: 0,
-            end: 0,
-            ended: true,
-            turns,
-        };
-    }
     let n = io::count(got, piece);
     Window {
         at: 0,
         end: n,
-        ended: false,
+        ended: n == 0,
         turns,
     }
 }
 
 // What is offered to the next call.
-fn offered(piece: &[u8], w: Window) -> &[u8] {
+fn offered(piece: &[u8], w: Window) -> &[u8]
+    ensures { λ r. ⌜ now r ≡ offerOf w (now (piece .entry)) ⌝ }
+{
     let at = w.at;
     let end = w.end;
-    if end < at {
+    if end <= at {
         return &piece[..0];
     }
     if piece.len() < end {
@@ -101,11 +101,10 @@ fn offered(piece: &[u8], w: Window) -> &[u8] {
     &piece[at..end]
 }
 
-// Where the next call starts. A call that uses none of its bytes, which none does, would lose them.
-fn behind(at: usize, end: usize, used: usize) -> usize {
-    if used == 0 {
-        return end;
-    }
+// Where the next call starts: behind the bytes used.
+fn behind(at: usize, end: usize, used: usize) -> usize
+    ensures { λ r. ⌜ r ≡ min (at + used) end ⌝ }
+{
     if end < at {
         return end;
     }
@@ -115,33 +114,39 @@ fn behind(at: usize, end: usize, used: usize) -> usize {
     at + used
 }
 
+// How many calls may still be made.
+fn turns_left(ended: bool, turns: u64) -> u64
+    ensures { λ r. ⌜ r ≡ cond ended 0 (turns - 1) ⌝ }
+{
+    if ended {
+        return 0;
+    }
+    if turns == 0 {
+        return 0;
+    }
+    turns - 1
+}
+
 // The window after a call.
 fn past(w: Window, used: usize) -> Window
-    requires { ⌜ 0 < w .turns ⌝ }
-    ensures { λ r. ⌜ r .turns < w .turns ⌝ }
+    ensures { λ r. ⌜ r ≡ pastOf w used ⌝ }
 {
     let end = w.end;
     let ended = w.ended;
-    let turns = w.turns;
-    let next = behind(w.at, end, used);
-    if ended {
-        return Window {
-            at: next,
-            end,
-            ended,
-            turns: 0,
-        };
-    }
+    let at = behind(w.at, end, used);
+    let turns = turns_left(ended, w.turns);
     Window {
-        at: next,
+        at,
         end,
         ended,
-        turns: turns - 1,
+        turns,
     }
 }
 
 // Offers the input, piece by piece, to its end. The loop lends its one record to each call, and reads it again afterwards.
-fn listen(a: Assoc, gather: &mut [u8], piece: &mut [u8], out: &mut [u8]) -> Assoc {
+fn listen(a: Assoc, gather: &mut [u8], piece: &mut [u8], out: &mut [u8]) -> Assoc
+    ensures { λ r. ⌜ Listened (lent a (now (gather .entry)) (now (out .entry))) (lent r (now (gather .exit)) (now (out .exit))) ⌝ }
+{
     let mut b = a;
     let mut w = unread();
     while 0 < w.turns {
@@ -155,7 +160,9 @@ fn listen(a: Assoc, gather: &mut [u8], piece: &mut [u8], out: &mut [u8]) -> Asso
 }
 
 // Gives a local event. The record is lent for it, and read again.
-fn give(a: Assoc, number: u8, gather: &[u8], out: &mut [u8]) -> Assoc {
+fn give(a: Assoc, number: u8, gather: &[u8], out: &mut [u8]) -> Assoc
+    ensures { λ r. ⌜ lent r (now (gather .entry)) (now (out .exit)) ≡ given (lent a (now (gather .entry)) (now (out .entry))) (plain number) ⌝ }
+{
     let mut b = a;
     let r = lent::event_lent(&mut b, number, gather, out);
     print_line(r, b.state);

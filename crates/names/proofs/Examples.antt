@@ -1,4 +1,4 @@
--- The rule of names at worked examples, those of document 01 among them, computed by antt.
+-- The rule of names at worked examples, computed by antt. Those of document 01 are in `cases`, case 10.
 -- Assumes nothing.
 use mathlib.Core.Path.{_≡_, refl}
 use mathlib.Core.Bool.{true, false}

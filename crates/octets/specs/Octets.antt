@@ -1,4 +1,4 @@
--- Numbers of two and four bytes, high byte first (PS3.8, 9.3.1: "big endian byte ordering").
+-- Numbers of two and four bytes, high byte first (PS3.8, 9.3.1: "Big Endian byte ordering").
 use Prim.Native.Nat.{ℕ, _+_, _*_, _/_, _%_}
 use mathlib.Core.Bool.{Bool}
 use mathlib.Core.List.{List, [], _∷_}

@@ -115,7 +115,7 @@ module _ (kind : ℕ) (x s : List ℕ) (r : Associate) (s′ : List ℕ) (w : Re
       go n true e = sym (eqb-true n 0 e)
       go n false e = refl
 
-  -- "Nothing is written when refused"
+  -- "Every refusal .. output stay unchanged": here the sheet
   pub untouched : (r .refusal ≡ 0 → ⊥) → s′ ≡ s
   unfolding filling front
   untouched n = w .sheet ∙ rw (ne-eqb (associateRefusal kind x (length s)) 0 (λ e. n (refusal-is ∙ e)))

@@ -1,11 +1,12 @@
--- The rules of titles at worked examples, those of document 01 among them, computed by antt.
+-- The rules of titles at worked examples, computed by antt. Those of document 01 are in `cases`, case 4.
 -- Assumes nothing.
 use mathlib.Core.Path.{_≡_, refl}
-use mathlib.Core.Bool.{true, false}
+use mathlib.Core.Bool.{false}
+use mathlib.Core.List.{List}
+use Prim.Native.Nat.{ℕ}
 use Rattle.laws.specs.Text.{bytes}
 use Rattle.titles.specs.Title.{titleOk, titlesEqual, trimEnd}
-use Rattle.titles.specs.Own.{listOk, known}
-use Rattle.titles.specs.declared.own.Known.the-variants.{Yes, No, Refused}
+use Rattle.titles.specs.Own.{listOk, refusalOf, valueOf}
 
 -- a backslash, sixteen spaces, fifteen characters
 backslash : titleOk (bytes "STORE\\EQUINE    ") ≡ false
@@ -24,20 +25,24 @@ inner : titlesEqual (bytes "STORE EQUINE    ") (bytes "STORE  EQUINE   ") ≡ fa
 unfolding titlesEqual trimEnd
 inner = refl
 
+-- refusal and value
+abbrev checked : List ℕ → List ℕ → ℕ × ℕ
+checked own sought = (refusalOf own sought, valueOf own sought)
+
 -- the sixth character is the last that another maker's box compared
-equine : known (bytes "STORE-EXOTIC    STORE-FELINE    ") (bytes "STORE-EQUINE    ") ≡ No
-unfolding known listOk titleOk titlesEqual trimEnd
+equine : checked (bytes "STORE-EXOTIC    STORE-FELINE    ") (bytes "STORE-EQUINE    ") ≡ (0, 0)
+unfolding refusalOf valueOf listOk titleOk titlesEqual trimEnd
 equine = refl
 
-exotic : known (bytes "STORE-EXOTIC    STORE-FELINE    ") (bytes " STORE-FELINE   ") ≡ Yes
-unfolding known listOk titleOk titlesEqual trimEnd
+exotic : checked (bytes "STORE-EXOTIC    STORE-FELINE    ") (bytes " STORE-FELINE   ") ≡ (0, 1)
+unfolding refusalOf valueOf listOk titleOk titlesEqual trimEnd
 exotic = refl
 
-part-record : known (bytes "STORE-EXOTIC    STORE-FELINE") (bytes "STORE-EXOTIC    ") ≡ Refused
-unfolding known listOk titleOk
+part-record : checked (bytes "STORE-EXOTIC    STORE-FELINE") (bytes "STORE-EXOTIC    ") ≡ (4, 0)
+unfolding refusalOf valueOf listOk titleOk
 part-record = refl
 
 -- sixteen bytes that are no valid title are answered no
-sought-blank : known (bytes "STORE-EXOTIC    ") (bytes "                ") ≡ No
-unfolding known listOk titleOk titlesEqual trimEnd
+sought-blank : checked (bytes "STORE-EXOTIC    ") (bytes "                ") ≡ (0, 0)
+unfolding refusalOf valueOf listOk titleOk titlesEqual trimEnd
 sought-blank = refl

@@ -1,17 +1,19 @@
 -- Laws of our own titles: the loop is at the j-th of n records of 16 bytes, and each way through the check.
 -- Assumes nothing.
 use Prim.Native.Nat.{ℕ, _<_, _≤_, _+_, _-_, _*_, _/_, _%_}
-use mathlib.Core.Path.{_≡_, refl, sym, _∙_, ap}
-use mathlib.Core.Bool.{Bool, true, false, cond, not, _&&_, and-false}
-use mathlib.Core.List.{List, [], _∷_}
+use mathlib.Core.Path.{_≡_, refl, sym, _∙_}
+use mathlib.Core.Bool.{Bool, true, false, cond, not, and-false}
+use mathlib.Core.List.{List}
 use lib.ListN.{length, take, drop}
 use native.Mathlib.Nat.{sub-zero}
+use native.Mathlib.Omega.{arith}
 use borrow.Author.Needs.{needs}
 use borrow.Author.Tests.{eq-eqb, ne-eqb, le-leb, lt-leb, not-true, not-false}
 use Rattle.laws.specs.Lists.{all, any, records}
 use Rattle.laws.proofs.Records.{records-step, records-over}
 use Rattle.titles.specs.Title.{titleOk, titlesEqual}
-use Rattle.titles.specs.Own.{titles, listOk, known}
+use Rattle.titles.specs.Own.{titles, listOk, refusalOf, valueOf, Checked, refusal, value}
+use Rattle.titles.specs.declared.own.Known.{Known}
 use Rattle.titles.specs.declared.own.Known.the-variants.{Yes, No, Refused}
 
 -- ---- all of them pass p. b is what the code finds at the j-th
@@ -59,21 +61,45 @@ module _ (p : List ℕ → Bool) (l : List ℕ) (n j : ℕ) (v : any p (records 
 pub ruleset any-laws = (needs, any-holds, any-next, any-stop, any-end)
 
 -- ---- the answer
-pub known-other : (l t : List ℕ) → (length t ≡ 16 → ⊥) → Refused ≡ known l t
-unfolding known
-known-other l t n = simp (ne-eqb _ _ n)
+refused-so : (l t : List ℕ) → refusalOf l t ≡ 4 → Checked l t 4 0
+unfolding valueOf
+refused-so l t e = record { refused = sym e; answer = simp e }
 
-pub known-bad : (l t : List ℕ) (b : Bool) → b ≡ listOk l → not b ≡ true → Refused ≡ known l t
-unfolding known
-known-bad l t b e f = simp (sym e ∙ not-true b f, and-false)
+either : (b : Bool) → _≡_ {A = ℕ} (cond b 4 4) 4
+either true = refl
+either false = refl
+
+pub known-other : (l t : List ℕ) → (length t ≡ 16 → ⊥) → Checked l t 4 0
+unfolding refusalOf
+known-other l t n = refused-so l t (simp (ne-eqb _ _ n) (either (not (listOk l))))
+
+pub known-bad : (l t : List ℕ) (b : Bool) → b ≡ listOk l → not b ≡ true → Checked l t 4 0
+unfolding refusalOf
+known-bad l t b e f = refused-so l t (simp (sym e ∙ not-true b f))
 
 module _ (l t : List ℕ) (b d : Bool) (e : b ≡ listOk l) (f : not b ≡ false) (g : d ≡ any (titlesEqual t) (titles l)) (h : length t ≡ 16) where
-  pub known-yes : d ≡ true → Yes ≡ known l t
-  unfolding known
-  known-yes q = simp (eq-eqb _ _ h, sym e ∙ not-false b f, sym g ∙ q)
+  none : refusalOf l t ≡ 0
+  unfolding refusalOf
+  none = simp (eq-eqb _ _ h, sym e ∙ not-false b f)
 
-  pub known-no : d ≡ false → No ≡ known l t
-  unfolding known
-  known-no q = simp (eq-eqb _ _ h, sym e ∙ not-false b f, sym g ∙ q)
+  pub known-yes : d ≡ true → Checked l t 0 1
+  unfolding valueOf
+  known-yes q = record { refused = sym none; answer = simp (none, sym g ∙ q) }
+
+  pub known-no : d ≡ false → Checked l t 0 0
+  unfolding valueOf
+  known-no q = record { refused = sym none; answer = simp (none, sym g ∙ q) }
 
 pub ruleset known-laws = (needs, known-other, known-bad, known-yes, known-no)
+
+-- number and value determine the answer
+pub same-known : (a b : Known) → refusal a ≡ refusal b → value a ≡ value b → a ≡ b
+same-known Yes Yes p q = refl
+same-known Yes No p q = absurd (omega (arith, q))
+same-known Yes Refused p q = absurd (omega (arith, p))
+same-known No Yes p q = absurd (omega (arith, q))
+same-known No No p q = refl
+same-known No Refused p q = absurd (omega (arith, p))
+same-known Refused Yes p q = absurd (omega (arith, p))
+same-known Refused No p q = absurd (omega (arith, p))
+same-known Refused Refused p q = refl

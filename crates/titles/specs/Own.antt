@@ -1,11 +1,13 @@
 -- The check of a sought title: "Our own titles are records of 16 bytes, 0 to 8 of them, valid as in an RQ. Any other list, or a sought title of other than
 -- 16 bytes, gets 4."
-use mathlib.Core.Bool.{Bool, cond, _&&_}
-use mathlib.Core.List.{List}
+use mathlib.Core.Path.{_≡_}
+use mathlib.Core.Bool.{Bool, not, cond, _&&_}
+use mathlib.Core.List.{List, [], _∷_}
 use Prim.Native.Nat.{ℕ, _/_, _%_}
 use lib.Dec.{leb, eqb}
 use lib.ListN.{length}
 use Rattle.laws.specs.Lists.{all, any, records}
+use Rattle.laws.specs.Refusals.{firstDue}
 use Rattle.titles.specs.Title.{titleOk, titlesEqual}
 use Rattle.titles.specs.declared.own.Known.{Known}
 use Rattle.titles.specs.declared.own.Known.the-variants.{Yes, No, Refused}
@@ -17,17 +19,25 @@ titles l = records 16 (length l / 16) l
 unfoldable pub listOk : List ℕ → Bool
 listOk l = eqb (length l % 16) 0 && leb (length l) 128 && all titleOk (titles l)
 
--- the answer
-unfoldable pub known : List ℕ → List ℕ → Known
-known own sought = cond (eqb (length sought) 16 && listOk own) (cond (any (titlesEqual sought) (titles own)) Yes No) Refused
+unfoldable pub refusalOf : List ℕ → List ℕ → ℕ
+refusalOf own sought = firstDue ((not (listOk own), 4) ∷ (not (eqb (length sought) 16), 4) ∷ [])
 
--- the paper's number of each answer: the refusal, 0 for none
+-- where nothing is refused: 1 where the title is among ours, else 0
+unfoldable pub valueOf : List ℕ → List ℕ → ℕ
+valueOf own sought = cond (eqb (refusalOf own sought) 0 && any (titlesEqual sought) (titles own)) 1 0
+
+-- an answer in the paper's numbers
+pub record Checked (own sought : List ℕ) (r v : ℕ) : Type 0 where
+  pub refused : r ≡ refusalOf own sought
+  pub answer : v ≡ valueOf own sought
+
+-- the paper's number of each case: the refusal, 0 for none
 abbrev pub refusal : Known → ℕ
 refusal Yes = 0
 refusal No = 0
 refusal Refused = 4
 
--- and its value: 1 for yes
+-- and its value
 abbrev pub value : Known → ℕ
 value Yes = 1
 value No = 0

@@ -2,7 +2,7 @@
 ghost use mathlib.Core.Path.{_≡_};
 ghost use Rattle.laws.specs.Lists.{any};
 ghost use Rattle.titles.specs.Title.{titlesEqual};
-ghost use Rattle.titles.specs.Own.{titles, listOk, known};
+ghost use Rattle.titles.specs.Own.{titles, listOk, Checked, refusal, value};
 use crate::equal::titles_equal;
 use crate::title::title_ok;
 
@@ -53,7 +53,7 @@ fn any_equal(own: &[u8], t: &[u8]) -> bool
 
 // Whether the title sought is among our own.
 pub fn title_known(own: &[u8], sought: &[u8]) -> Known
-    ensures { λ r. ⌜ r ≡ known (now (own .entry)) (now (sought .entry)) ⌝ }
+    ensures { λ r. ⌜ Checked (now (own .entry)) (now (sought .entry)) (refusal r) (value r) ⌝ }
 {
     if sought.len() != 16 {
         return Known::Refused;

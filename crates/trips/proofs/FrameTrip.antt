@@ -158,7 +158,7 @@ module _ (f : Frame) (w : Fits f) where
       = ap (λ (v : Walk). first (bodies 0x50 v)) walked ∙ (ap first (bodies-past 0x50 (f .context) (f .bodies) (item 0x50 (joined (f .user)) done) c) ∙ ap joined (w .user)) in
       ap (λ (x : List ℕ). be32 (first (bodies 0x51 (walk x))) 0) u
 
-  -- "one 10H, one or more contexts, one 50H", no ID twice
+  -- "one 10H, one or more contexts .. one 50H", no ID twice
   pub frame-items-ok : eqb (f .context) 0x10 ≡ false → eqb 0x10 (f .context) ≡ false → eqb 0x50 (f .context) ≡ false → nameOk (f .application) ≡ true → leb 1 (length (f .bodies)) ≡ true
       → all (contextGood (f .context)) (f .bodies) ≡ true → distinct (map bodyId (f .bodies)) ≡ true → itemsOk (f .context) (topItems (frameBytes f)) ≡ true
   unfolding itemsOk ids

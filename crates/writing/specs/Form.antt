@@ -1,5 +1,5 @@
 -- The one form of each PDU that is sent, and what a call that writes it answers and leaves: "An answered call writes its sent bytes at the start of the output and changes
--- no byte beyond them." "Every refusal returns its number, zero counts ..; .. output stay[s] unchanged."
+-- no byte beyond them." "Every refusal returns its number, zero counts .. output stay unchanged."
 use Prim.Native.Nat.{ℕ, _-_}
 use mathlib.Core.Path.{_≡_}
 use mathlib.Core.Bool.{Bool, true, not, cond}

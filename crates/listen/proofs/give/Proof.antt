@@ -23,7 +23,6 @@ use types.Run.{look, init, forget, stop, hop, fld, from, load, addr, of-opd, and
 use types.Part.{agg, whole, sub, look-in}
 use types.SemTy.{Body}
 use types.Tokens.{lft-new, lft-end}
-use sound.Laws.{∗emp}
 use sound.WpLaws.{FmC, fmOf, WpFn-mono}
 use denote.RattleType.{owns}
 use denote.Memory.{mem}
@@ -33,7 +32,7 @@ use denote.Builtin.{u8}
 use denote.Ref.{RefT, MutRef}
 use denote.Slice.{sliceVal, MutSlice, ShrSlice, Room, finally, slice-vals, mut-slice-tells, shr-slice-tells, shr-slice-copy}
 use denote.Lend.{lends-ref, ref-back}
-use denote.Steps.{only, owned, peeks, nothing}
+use denote.Steps.{only, owned, peeks, heard, nothing}
 use denote.Struct.Laws as LL
 use denote.Triple.Entry.{onEntry}
 use denote.Triple.Spec.{Meets, tripleOf}
@@ -41,7 +40,7 @@ use denote.Triple.Statement.{Contract, Triple}
 use denote.Triple.Call.{calls-at}
 use denote.Triple.Clauses.{ensured, lasts}
 use denote.Triple.Table.{entered, cited}
-use denote.Triple.Walked.{Stays, stay-none, gave-slice, stay-none-slice, walkOf, AllGo, goes-none, goes-gave-slice, goes-none-slice, Walks, ends-at, walked, walk-meets}
+use denote.Triple.Walked.{says, Stays, stay-none, gave-slice, stay-none-slice, walkOf, AllGo, goes-none, goes-gave-slice, goes-none-slice, Walks, ends-at, walked, walk-meets}
 use denote.Exit.{yes}
 use denote.Signature.{plain}
 use Rattle.association.specs.Events.{Local.plain as bare}
@@ -52,10 +51,12 @@ use Rattle.association.proofs.Assoc as T
 use Rattle.association.proofs.Assoc.Laws as T′
 use Rattle.association.proofs.Told as U
 use Rattle.association.proofs.Told.Laws as U′
+use Rattle.demand.specs.Calls.{leaves}
 use Rattle.lent.proofs.event_lent as lent
 use Rattle.lent.proofs.event_lent.Symbol as lent-def
 use Rattle.lent.proofs.event_lent.Symbol.{name as #event-lent}
 use Rattle.lent.proofs.event_lent.Met as lent-thm
+use Rattle.listen.specs.Listen.{lent as lent-of, given as given-of}
 use Rattle.listen.proofs.Local.{into, out-of, Print, to-print, goes-print}
 use Rattle.listen.proofs.print_line as print-line
 use Rattle.listen.proofs.print_line.Symbol as print-def
@@ -110,10 +111,10 @@ module _ {M : Type 1} (𝓤 : URA M) (H : Heap 𝓤) (A : Atoms 𝓤) (W : Given
   goes : (l ν : ℕ) (δ : GName) → ent 𝓤 (⋆ 𝓤 H A ((‵ (flft (ν ∷ []) fullShare) ⊛ toks) ∷ ‵ (given-up l ν δ) ∷ [])) (Lent 𝓤 H A at-mem run .pre (to-lent l ν δ))
   goes l ν δ = qed W ((‵ (flft (ν ∷ []) fullShare) ⊛ toks) ∷ ‵ (given-up l ν δ) ∷ []) ∵ join ! $ frame ! $ done !
 
-  exits : (k : Assoc) (os : List ℕ) → Is T.the-row k (T′.lowered k ∷ []) → length os ≡ length (xo .now) → ent 𝓤 (⋆ 𝓤 H A (toks ∷ ‵ G ∷ ‵ (finally u8 (xo .name) os) ∷ [])) (Post (T′.lowered k))
-  exits k os ik lo =
+  exits : (k : Assoc) (os : List ℕ) → Is T.the-row k (T′.lowered k ∷ []) → length os ≡ length (xo .now) → lent-of k (xg .now) os ≡ given-of (lent-of h (xg .now) (xo .now)) (bare e) → ent 𝓤 (⋆ 𝓤 H A (toks ∷ ‵ G ∷ ‵ (finally u8 (xo .name) os) ∷ [])) (Post (T′.lowered k))
+  exits k os ik lo made =
       qed W (toks ∷ ‵ G ∷ ‵ (finally u8 (xo .name) os) ∷ []) ∵
-      suffices ! _ (ends-at 𝓤 H A give.ended stayed (give.clauses 𝓤 H A at-mem run) W ((κs, qs, tt, (h, xs), (T′.lowered h ∷ [], ss)), tt) (T′.lowered k) k (tt, (tt, (tt, (os, tt)))) (tt, (tt, (tt, (lo, tt))))) $ suffices ! _ (∗emp 𝓤 _) $ frame ! $
+      suffices ! _ (ends-at 𝓤 H A give.ended stayed (give.clauses 𝓤 H A at-mem run) W ((κs, qs, tt, (h, xs), (T′.lowered h ∷ [], ss)), tt) (T′.lowered k) k (tt, (tt, (tt, (os, tt)))) (tt, (tt, (tt, (lo, tt))))) $ says ! made $ frame ! $
       nothing ! $ move ! (2 ∷ 0 ∷ []) $ fjoin ! $ move ! (1 ∷ 0 ∷ []) $ fjoin ! $ owned ! u8 (Is u8) (uint-makes 𝓤 H A W w8) e _ ie $ fjoin ! $ owned ! T.the-row (Is T.the-row) (LL.makes T.the-type T′.the-plain 𝓤 H A) h _ ih $ fjoin ! $
       owned ! T.the-row (Is T.the-row) (LL.makes T.the-type T′.the-plain 𝓤 H A) k _ ik $ move ! (1 ∷ 0 ∷ []) $ done !
 
@@ -139,7 +140,7 @@ module _ {M : Type 1} (𝓤 : URA M) (H : Heap 𝓤) (A : Atoms 𝓤) (W : Given
         use1 W (later (some (λ (r : Told). ((‵ (flft (ν ∷ []) fullShare) ⊛ toks) ⊛ ‵ (U.the-row .own r (w ∷ []))) ⊛ raw (ensured 𝓤 H A lent.ended (lent.clauses 𝓤 H A at-mem run) (ν ∷ [], κs) (x l5 δ, xs) tt r)))) (id⊢ 𝓤 _) $ await ! tt $ pick ! (λ r.
         -- what it leaves: a last record and a last list
         split ! $ move ! (1 ∷ []) $ use1 W (some (λ (zs : Assoc × (Unit {0} × (Unit {0} × (List ℕ × Unit {0})))). ‵ (lasts lent.ended (ν ∷ [], κs) (x l5 δ, xs) zs) ⊛ raw (fact 𝓤 (call (record { told = r; assoc = zs .0 }) (xg .now) (zs .1 .1 .1 .0) ≡ localOf h (xg .now) (xo .now) (bare e))))) (id⊢ 𝓤 _) $ pick ! (λ zs.
-        split ! $ move ! (1 ∷ []) $ drop ! $ fsplit ! $ move ! (1 ∷ []) $ fsplit ! $ move ! (1 ∷ []) $ fsplit ! $ move ! (1 ∷ []) $ fsplit ! $ fsplit ! $ move ! (1 ∷ []) $ feqL ! (λ lo.
+        split ! $ move ! (1 ∷ []) $ heard ! (call (record { told = r; assoc = zs .0 }) (xg .now) (zs .1 .1 .1 .0) ≡ localOf h (xg .now) (xo .now) (bare e)) (λ made. fsplit ! $ move ! (1 ∷ []) $ fsplit ! $ move ! (1 ∷ []) $ fsplit ! $ move ! (1 ∷ []) $ fsplit ! $ fsplit ! $ move ! (1 ∷ []) $ feqL ! (λ lo.
         -- [out's last list; …; …; …; the last record; the tokens and the result; gather's; a's; the lender's part; _11; …]
         move ! (5 ∷ []) $ split ! $ move ! (1 ∷ []) $ peeks ! U.the-row (Is U.the-row) (shows 𝓤 H A U.the-row) r (w ∷ []) (λ is.
         land ! (from ! (stop !)) (init ! 20 refl (LL.lawful U.the-type U′.the-laws 𝓤 H A W .typed r _ is .0)) $ rewrite ! 20 (λ (u : Val). ‵ (fat fullShare U′.mir l6 0 u)) (ap only (LL.tells U.the-type U′.the-laws r _ is)) refl $
@@ -156,7 +157,7 @@ module _ {M : Type 1} (𝓤 : URA M) (H : Heap 𝓤) (A : Atoms 𝓤) (W : Given
         assigns ! (of-opd ! (load ! (from ! (stop !)) (look ! 0 refl))) (from ! (stop !)) (init ! 30 refl (LL.lawful T.the-type T′.the-laws 𝓤 H A W .typed (zs .0) _ ik .0)) $
         returns ! (look ! 30 refl) $ forget ! 0 refl $ forget ! 9 refl $ forget ! 11 refl $ forget ! 13 refl $ forget ! 15 refl $ forget ! 17 refl $ forget ! 19 refl $ forget ! 22 refl $ forget ! 24 refl $ forget ! 26 refl $ forget ! 28 refl $ forget ! 30 refl $
         move ! (30 ∷ 31 ∷ []) $ free1 ! $ move ! (28 ∷ 29 ∷ []) $ free1 ! $ move ! (26 ∷ 27 ∷ []) $ free1 ! $ move ! (24 ∷ 25 ∷ []) $ free1 ! $ move ! (22 ∷ 23 ∷ []) $ free1 ! $ move ! (0 ∷ 21 ∷ []) $ free1 ! $ move ! (18 ∷ 19 ∷ []) $ free1 ! $ move ! (16 ∷ 17 ∷ []) $ free1 ! $ move ! (14 ∷ 15 ∷ []) $ free1 ! $ move ! (12 ∷ 13 ∷ []) $ free1 ! $ move ! (10 ∷ 11 ∷ []) $ free1 ! $ move ! (8 ∷ 9 ∷ []) $ free1 ! $ free0 ! $
-        keep ! (0 ∷ 6 ∷ 2 ∷ []) $ by ! (exits (zs .0) (zs .1 .1 .1 .0) ik lo))))))))))))))))))))))))
+        keep ! (0 ∷ 6 ∷ 2 ∷ []) $ by ! (exits (zs .0) (zs .1 .1 .1 .0) ik lo (ap leaves made))))))))))))))))))))))))))
 
 module _ {M : Type 1} (𝓤 : URA M) (H : Heap 𝓤) (A : Atoms 𝓤) (W : Given 𝓤 H A) (mem : Memory → SProp 𝓤) (run : Routine → Fun 𝓤) where
   give-walks : (C : Calls 𝓤 H) (Λ : Loops 𝓤 H) → FmC 𝓤 H (W .laws) C → Triple 𝓤 (C #event-lent) (Lent 𝓤 H A mem run) → Triple 𝓤 (C #print-line) (Print 𝓤 H A mem run) → Walks 𝓤 H A give.ended stayed (WpFn 𝓤 H C Λ code.function) (give.clauses 𝓤 H A mem run)

@@ -1,4 +1,4 @@
--- `listen` is safe and ends: a walk of its MIR, by hand, with a loop. At each turn the piece is lent to `fill`, then, to be read, to `offered`; the record's local, the gather buffer and the output are
+-- `listen` meets its contract, is safe and ends: a walk of its MIR, by hand, with a loop. At each turn the piece is lent to `fill`, then, to be read, to `offered`; the record's local, the gather buffer and the output are
 -- lent to `receive_lent` for lifetimes of that call, and come back; the record is read again. The variant is the number of turns left.
 -- All that the proof knows of the functions called is that each meets its contract.
 -- Assumes nothing.
@@ -29,7 +29,6 @@ use types.Run.{look, init, store, forget, stop, hop, fld, from, load, lit, addr,
 use types.Part.{agg, whole, sub, look-in}
 use types.SemTy.{Body as Held}
 use types.Tokens.{lft-new, lft-end}
-use sound.Laws.{∗emp}
 use sound.Loop.{loop-rule}
 use sound.WpLaws.{FmC, fmOf, WpFn-mono}
 use denote.RattleType.{owns}
@@ -63,6 +62,9 @@ use Rattle.lent.proofs.receive_lent.Symbol as lent-def
 use Rattle.lent.proofs.receive_lent.Symbol.{name as #receive-lent}
 use Rattle.lent.proofs.receive_lent.Met as lent-thm
 use Rattle.listen.specs.declared.Window.{Window}
+use Rattle.listen.specs.Window.{unreadOf, offerOf, pastOf, Filled}
+use Rattle.listen.specs.Listen.{lent as lent-of}
+use Rattle.listen.proofs.Feeds.{Loop, starts as starts-loop, finishes, turned as makes, fewer}
 use Rattle.listen.proofs.Window as N
 use Rattle.listen.proofs.Window.Laws as N′
 use Rattle.listen.proofs.Again.{at-list, value, held, kept, shown, taken, given, lends, back, shows, unshow}
@@ -193,12 +195,13 @@ module _ {M : Type 1} (𝓤 : URA M) (H : Heap 𝓤) (A : Atoms 𝓤) (W : Given
     len-gather : length (z .gather) ≡ length (xg .now)
     len-piece : length (z .piece) ≡ length (xp .now)
     len-out : length (z .out) ≡ length (xo .now)
+    made : Loop (lent-of h (xg .now) (xo .now)) (z .window) (z .piece) (lent-of (z .assoc) (z .gather) (z .out))
 
-  exits : {t : ℕ} (z : Turn) → Facts t z
+  exits : (z : Turn) → Facts 0 z
       → ent 𝓤 (⋆ 𝓤 H A (‵ (flft κg qg) ∷ ‵ (flft κp qp) ∷ ‵ (flft κo qo) ∷ ‵ (held κg xg (z .gather)) ∷ ‵ (held κp xp (z .piece)) ∷ ‵ (held κo xo (z .out)) ∷ [])) (Post (T′.lowered (z .assoc)))
   exits z f =
       qed W (‵ (flft κg qg) ∷ ‵ (flft κp qp) ∷ ‵ (flft κo qo) ∷ ‵ (held κg xg (z .gather)) ∷ ‵ (held κp xp (z .piece)) ∷ ‵ (held κo xo (z .out)) ∷ []) ∵
-      suffices ! _ (ends-at 𝓤 H A listen.ended stayed (listen.clauses 𝓤 H A at-mem run) W ((κs, qs, tt, a, vals), tt) (T′.lowered (z .assoc)) (z .assoc) (tt, (z .gather, (z .piece, (z .out, tt)))) (tt, (f .len-gather, (f .len-piece, (f .len-out, tt))))) $ suffices ! _ (∗emp 𝓤 _) $
+      suffices ! _ (ends-at 𝓤 H A listen.ended stayed (listen.clauses 𝓤 H A at-mem run) W ((κs, qs, tt, a, vals), tt) (T′.lowered (z .assoc)) (z .assoc) (tt, (z .gather, (z .piece, (z .out, tt)))) (tt, (f .len-gather, (f .len-piece, (f .len-out, tt))))) $ says ! (finishes (f .made) (f .turns)) $
       move ! (3 ∷ []) $ use1 W (‵ (MutSlice (named 0) κg u8 .own (at-list xg (xg .name) (z .gather)) (value xg ∷ []))) (given 𝓤 H A W (named 0) κg xg (z .gather) (f .len-gather)) $ move ! (4 ∷ []) $ use1 W (‵ (MutSlice (named 1) κp u8 .own (at-list xp (xp .name) (z .piece)) (value xp ∷ []))) (given 𝓤 H A W (named 1) κp xp (z .piece) (f .len-piece)) $ move ! (5 ∷ []) $ use1 W (‵ (MutSlice (named 2) κo u8 .own (at-list xo (xo .name) (z .out)) (value xo ∷ []))) (given 𝓤 H A W (named 2) κo xo (z .out) (f .len-out)) $ nothing ! $ move ! (6 ∷ 0 ∷ []) $ join ! $ move ! (5 ∷ 0 ∷ []) $ join ! $ move ! (4 ∷ 0 ∷ []) $ join ! $ frame ! $
       nothing ! $ move ! (1 ∷ 0 ∷ []) $ fjoin ! $ move ! (1 ∷ 0 ∷ []) $ fjoin ! $ move ! (1 ∷ 0 ∷ []) $ fjoin ! $ owned ! T.the-row (Is T.the-row) (LL.makes T.the-type T′.the-plain 𝓤 H A) h _ ih $ fjoin ! $
       owned ! T.the-row (Is T.the-row) (LL.makes T.the-type T′.the-plain 𝓤 H A) (z .assoc) _ (f .is-assoc) $ move ! (1 ∷ 0 ∷ []) $ done !
@@ -209,6 +212,9 @@ module _ {M : Type 1} (𝓤 : URA M) (H : Heap 𝓤) (A : Atoms 𝓤) (W : Given
 
   goes-unread : ent 𝓤 (sem 𝓤 H A ftrue) (Unread 𝓤 H A at-mem run .pre to-unread)
   goes-unread = qed W (‵ ftrue ∷ []) ∵ nothing ! $ join ! $ frame ! $ done !
+
+  unread-of : (v : Window) → ent 𝓤 (ensured 𝓤 H A unread.ended (unread.clauses 𝓤 H A at-mem run) tt tt tt v) (fact 𝓤 (v ≡ unreadOf))
+  unread-of v = exE 𝓤 _ (λ ws. snd∗ 𝓤 (sem 𝓤 H A (lasts unread.ended tt tt ws)) (fact 𝓤 (v ≡ unreadOf)))
 
   -- the call of `fill`: the piece under δ, lent for ν
   module _ (ν : ℕ) (δ : GName) (z : Turn) where
@@ -231,6 +237,9 @@ module _ {M : Type 1} (𝓤 : URA M) (H : Heap 𝓤) (A : Atoms 𝓤) (W : Given
 
     goes-offered : ent 𝓤 (⋆ 𝓤 H A ((‵ (flft (ν ∷ []) fullShare) ⊛ ‵ ftrue) ∷ ‵ offered-owns ∷ [])) (Offered 𝓤 H A at-mem run .pre to-offered)
     goes-offered = qed W ((‵ (flft (ν ∷ []) fullShare) ⊛ ‵ ftrue) ∷ ‵ offered-owns ∷ []) ∵ join ! $ frame ! $ done !
+
+    offered-of : (y : RefT (List ℕ)) → ent 𝓤 (ensured 𝓤 H A offered.ended (offered.clauses 𝓤 H A at-mem run) (ν ∷ [], tt) (at-list xp δ p, (v, tt)) tt y) (fact 𝓤 (y .now ≡ offerOf v p))
+    offered-of y = exE 𝓤 _ (λ ws. snd∗ 𝓤 (sem 𝓤 H A (lasts offered.ended (ν ∷ [], tt) (at-list xp δ p, (v, tt)) ws)) (fact 𝓤 (y .now ≡ offerOf v p)))
 
   -- the call of `receive_lent`: the record at l under δ₃, the buffers under δ₄ and δ₅, and the part y that is offered, lent for ν₃, ν₄, ν₅ and ν₂
   abbrev record-at : ℕ → GName → Assoc → RefT Assoc
@@ -263,12 +272,12 @@ module _ {M : Type 1} (𝓤 : URA M) (H : Heap 𝓤) (A : Atoms 𝓤) (W : Given
     abbrev to-past : Past 𝓤 H A at-mem run .Ghost
     to-past = ((tt, tt, tt, (v, (used, tt)), (N′.lowered v ∷ [], (vint w64 used ∷ [], tt))), tt)
 
-    goes-past : Is N.the-row v (N′.lowered v ∷ []) → used < 2 ^ 64 → 0 < v .turns → ent 𝓤 (sem 𝓤 H A ftrue) (Past 𝓤 H A at-mem run .pre to-past)
-    goes-past iv fits pos =
-        qed W (‵ ftrue ∷ []) ∵ says ! pos $ frame ! $ nothing ! $ owned ! usize (Is usize) (uint-makes 𝓤 H A W w64) used _ (refl, fits) $ fjoin ! $ owned ! N.the-row (Is N.the-row) (LL.makes N.the-type N′.the-plain 𝓤 H A) v _ iv $ fjoin ! $ done !
+    goes-past : Is N.the-row v (N′.lowered v ∷ []) → used < 2 ^ 64 → ent 𝓤 (sem 𝓤 H A ftrue) (Past 𝓤 H A at-mem run .pre to-past)
+    goes-past iv fits =
+        qed W (‵ ftrue ∷ []) ∵ nothing ! $ owned ! usize (Is usize) (uint-makes 𝓤 H A W w64) used _ (refl, fits) $ fjoin ! $ owned ! N.the-row (Is N.the-row) (LL.makes N.the-type N′.the-plain 𝓤 H A) v _ iv $ fjoin ! $ move ! (1 ∷ 0 ∷ []) $ join ! $ frame ! $ done !
 
-    past-of : (n : Window) → ent 𝓤 (ensured 𝓤 H A past.ended (past.clauses 𝓤 H A at-mem run) tt (v, (used, tt)) tt n) (fact 𝓤 (n .turns < v .turns))
-    past-of n = exE 𝓤 _ (λ ws. snd∗ 𝓤 (sem 𝓤 H A (lasts past.ended tt (v, (used, tt)) ws)) (fact 𝓤 (n .turns < v .turns)))
+    past-of : (n : Window) → ent 𝓤 (ensured 𝓤 H A past.ended (past.clauses 𝓤 H A at-mem run) tt (v, (used, tt)) tt n) (fact 𝓤 (n ≡ pastOf v used))
+    past-of n = exE 𝓤 _ (λ ws. snd∗ 𝓤 (sem 𝓤 H A (lasts past.ended tt (v, (used, tt)) ws)) (fact 𝓤 (n ≡ pastOf v used)))
 
   module _ (𝓣 : Tables 𝓤 H) (known-unread : Triple 𝓤 (𝓣 .C #unread) (Unread 𝓤 H A at-mem run)) (known-fill : Triple 𝓤 (𝓣 .C #fill) (Fill 𝓤 H A at-mem run)) (known-offered : Triple 𝓤 (𝓣 .C #offered) (Offered 𝓤 H A at-mem run)) (known-lent : Triple 𝓤 (𝓣 .C #receive-lent) (Lent 𝓤 H A at-mem run))
       (known-print : Triple 𝓤 (𝓣 .C #print-line) (Print 𝓤 H A at-mem run)) (known-past : Triple 𝓤 (𝓣 .C #past) (Past 𝓤 H A at-mem run)) (rg : Room u8 (length (xg .now))) (rp : Room u8 (length (xp .now))) (ro : Room u8 (length (xo .now))) where
@@ -338,8 +347,8 @@ module _ {M : Type 1} (𝓤 : URA M) (H : Heap 𝓤) (A : Atoms 𝓤) (W : Given
           nothing ! $ move ! (1 ∷ 0 ∷ []) $ fjoin ! $ owned ! N.the-row (Is N.the-row) (LL.makes N.the-type N′.the-plain 𝓤 H A) (z .window) _ (f .is-window) $ fjoin ! $ nothing ! $ move ! (3 ∷ 0 ∷ []) $ join ! $ use2 W (raw (Fill 𝓤 H A at-mem run .pre (to-fill ν₁ δ₁ z))) (goes-fill ν₁ δ₁ z) $
           calls-at ! fm (Fill 𝓤 H A at-mem run) known-fill (to-fill ν₁ δ₁ z) (and-then ! (load ! (from ! (stop !)) (look ! 7 refl)) (and-then ! (load ! (from ! (stop !)) (look ! 13 refl)) (no-more !))) (λ w₁.
           use1 W (later (some (λ (v : Window). ((‵ (flft (ν₁ ∷ []) fullShare) ⊛ ‵ ftrue) ⊛ ‵ (N.the-row .own v (w₁ ∷ []))) ⊛ raw (ensured 𝓤 H A fill.ended (fill.clauses 𝓤 H A at-mem run) (ν₁ ∷ [], tt) (z .window, (at-list xp δ₁ (z .piece), tt)) tt v)))) (id⊢ 𝓤 _) $ await ! tt $ pick ! (λ v. split ! $
-          move ! (1 ∷ []) $ use1 W (some (λ (zs : Unit {0} × (List ℕ × Unit {0})). ‵ (lasts fill.ended (ν₁ ∷ [], tt) (z .window, (at-list xp δ₁ (z .piece), tt)) zs) ⊛ raw (fact 𝓤 (v .turns ≡ z .window .turns)))) (id⊢ 𝓤 _) $ pick ! (λ ps. split ! $
-          move ! (1 ∷ []) $ heard ! (v .turns ≡ z .window .turns) (λ same. fsplit ! $ move ! (1 ∷ []) $ fsplit ! $ fsplit ! $ move ! (1 ∷ []) $ feqL ! (λ lp. move ! (2 ∷ []) $ drop ! $ move ! (1 ∷ []) $ drop ! $ move ! (1 ∷ []) $ split ! $ move ! (1 ∷ []) $ peeks ! N.the-row (Is N.the-row) (shown-by 𝓤 H A N.the-row) v (w₁ ∷ []) (λ iv.
+          move ! (1 ∷ []) $ use1 W (some (λ (zs : Unit {0} × (List ℕ × Unit {0})). ‵ (lasts fill.ended (ν₁ ∷ [], tt) (z .window, (at-list xp δ₁ (z .piece), tt)) zs) ⊛ raw (fact 𝓤 (Filled (z .window) (z .piece) v (zs .1 .0))))) (id⊢ 𝓤 _) $ pick ! (λ ps. split ! $
+          move ! (1 ∷ []) $ heard ! (Filled (z .window) (z .piece) v (ps .1 .0)) (λ filled. fsplit ! $ move ! (1 ∷ []) $ fsplit ! $ fsplit ! $ move ! (1 ∷ []) $ feqL ! (λ lp. move ! (2 ∷ []) $ drop ! $ move ! (1 ∷ []) $ drop ! $ move ! (1 ∷ []) $ split ! $ move ! (1 ∷ []) $ peeks ! N.the-row (Is N.the-row) (shown-by 𝓤 H A N.the-row) v (w₁ ∷ []) (λ iv.
           land ! (from ! (stop !)) (init ! 10 refl (LL.lawful N.the-type N′.the-laws 𝓤 H A W .typed v _ iv .0)) $ rewrite ! 10 (λ (u : Val). ‵ (fat fullShare N′.mir l7 0 u)) (ap only (LL.tells N.the-type N′.the-laws v _ iv)) refl $ drop ! $ split ! $ move ! (1 ∷ []) $ drop ! $ lft-end ! tt $
           move ! (0 ∷ 2 ∷ 1 ∷ []) $ use3 W (later (‵ (held κp xp (ps .1 .0)) ⊛ ‵ (flft κp qp))) (back 𝓤 H A W (named 0) κp xp qp (ν₁ ∷ []) (z .piece) δ₁ (ps .1 .0)) $ await ! tt $ split ! $
           -- it is lent to `offered`, as a slice that is only read: `y` is the part that is offered
@@ -349,7 +358,7 @@ module _ {M : Type 1} (𝓤 : URA M) (H : Heap 𝓤) (A : Atoms 𝓤) (W : Given
           nothing ! $ owned ! N.the-row (Is N.the-row) (LL.makes N.the-type N′.the-plain 𝓤 H A) v _ (full-window v iv) $ fjoin ! $ move ! (1 ∷ 0 ∷ []) $ fjoin ! $ nothing ! $ move ! (3 ∷ 0 ∷ []) $ join ! $ use2 W (raw (Offered 𝓤 H A at-mem run .pre (to-offered ν₂ δ₂ (ps .1 .0) v))) (goes-offered ν₂ δ₂ (ps .1 .0) v) $
           calls-at ! fm (Offered 𝓤 H A at-mem run) known-offered (to-offered ν₂ δ₂ (ps .1 .0) v) (and-then ! (load ! (from ! (stop !)) (look ! 15 refl)) (and-then ! (load ! (from ! (stop !)) (look ! 8 refl)) (no-more !))) (λ w₂.
           use1 W (later (some (λ (y : RefT (List ℕ)). ((‵ (flft (ν₂ ∷ []) fullShare) ⊛ ‵ ftrue) ⊛ ‵ (ShrSlice (named 0) (ν₂ ∷ []) u8 .own y (w₂ ∷ []))) ⊛ raw (ensured 𝓤 H A offered.ended (offered.clauses 𝓤 H A at-mem run) (ν₂ ∷ [], tt) (at-list xp δ₂ (ps .1 .0), (v, tt)) tt y)))) (id⊢ 𝓤 _) $ await ! tt $ pick ! (λ y. split ! $
-          move ! (1 ∷ []) $ drop ! $ split ! $ split ! $ move ! (1 ∷ []) $ drop ! $ move ! (1 ∷ []) $ peeks ! (ShrSlice (named 0) (ν₂ ∷ []) u8) (Is (ShrSlice (named 0) (ν₂ ∷ []) u8)) (shown-by 𝓤 H A (ShrSlice (named 0) (ν₂ ∷ []) u8)) y (w₂ ∷ []) (λ iy.
+          move ! (1 ∷ []) $ use1 W (raw (fact 𝓤 (y .now ≡ offerOf v (ps .1 .0)))) (offered-of ν₂ δ₂ (ps .1 .0) v y) $ heard ! (y .now ≡ offerOf v (ps .1 .0)) (λ part. split ! $ split ! $ move ! (1 ∷ []) $ drop ! $ move ! (1 ∷ []) $ peeks ! (ShrSlice (named 0) (ν₂ ∷ []) u8) (Is (ShrSlice (named 0) (ν₂ ∷ []) u8)) (shown-by 𝓤 H A (ShrSlice (named 0) (ν₂ ∷ []) u8)) y (w₂ ∷ []) (λ iy.
           land ! (from ! (stop !)) (init ! 10 refl (shr-slice-lawful 𝓤 H A W (named 0) (ν₂ ∷ []) u8 .typed y _ iy .0)) $ rewrite ! 10 (λ (u : Val). ‵ (fat fullShare (sliceTy refS) l8 0 u)) (ap only (iy .0 .0)) refl $
           rewrite ! 0 (λ (us : List Val). ‵ (ShrSlice (named 0) (ν₂ ∷ []) u8 .own y us)) (iy .0 .0) refl $
           -- the record, the gather buffer and the output are lent to `receive_lent`
@@ -367,7 +376,7 @@ module _ {M : Type 1} (𝓤 : URA M) (H : Heap 𝓤) (A : Atoms 𝓤) (W : Given
           calls-at ! fm (Lent 𝓤 H A at-mem run) known-lent (to-lent l5 ν₃ ν₄ ν₂ ν₅ δ₃ δ₄ δ₅ z y) (and-then ! (load ! (from ! (stop !)) (look ! 14 refl)) (and-then ! (load ! (from ! (stop !)) (look ! 16 refl)) (and-then ! (load ! (from ! (stop !)) (look ! 7 refl)) (and-then ! (load ! (from ! (stop !)) (look ! 18 refl)) (no-more !))))) (λ w₃.
           use1 W (later (some (λ (r : Told). (lent-toks l5 ν₃ ν₄ ν₂ ν₅ δ₃ δ₄ δ₅ z y ⊛ ‵ (U.the-row .own r (w₃ ∷ []))) ⊛ raw (ensured 𝓤 H A lent.ended (lent.clauses 𝓤 H A at-mem run) (lent-lfts l5 ν₃ ν₄ ν₂ ν₅ δ₃ δ₄ δ₅ z y) (lent-args l5 ν₃ ν₄ ν₂ ν₅ δ₃ δ₄ δ₅ z y) tt r)))) (id⊢ 𝓤 _) $ await ! tt $ pick ! (λ r. split ! $
           move ! (1 ∷ []) $ use1 W (some (λ (zs : Assoc × (List ℕ × (Unit {0} × (List ℕ × Unit {0})))). ‵ (lasts lent.ended (lent-lfts l5 ν₃ ν₄ ν₂ ν₅ δ₃ δ₄ δ₅ z y) (lent-args l5 ν₃ ν₄ ν₂ ν₅ δ₃ δ₄ δ₅ z y) zs) ⊛ raw (fact 𝓤 (call (record { told = r; assoc = zs .0 }) (zs .1 .0) (zs .1 .1 .1 .0) ≡ receiveOf (z .assoc) (z .gather) (y .now) (z .out))))) (id⊢ 𝓤 _) $ pick ! (λ zs. split ! $
-          move ! (1 ∷ []) $ drop ! $ fsplit ! $ move ! (1 ∷ []) $ fsplit ! $ fsplit ! $ move ! (1 ∷ []) $ feqL ! (λ lg. move ! (1 ∷ []) $ fsplit ! $ move ! (1 ∷ []) $ fsplit ! $ fsplit ! $ move ! (1 ∷ []) $ feqL ! (λ lo. move ! (2 ∷ []) $ drop ! $ move ! (1 ∷ []) $ drop ! $
+          move ! (1 ∷ []) $ heard ! (call (record { told = r; assoc = zs .0 }) (zs .1 .0) (zs .1 .1 .1 .0) ≡ receiveOf (z .assoc) (z .gather) (y .now) (z .out)) (λ answered. fsplit ! $ move ! (1 ∷ []) $ fsplit ! $ fsplit ! $ move ! (1 ∷ []) $ feqL ! (λ lg. move ! (1 ∷ []) $ fsplit ! $ move ! (1 ∷ []) $ fsplit ! $ fsplit ! $ move ! (1 ∷ []) $ feqL ! (λ lo. move ! (2 ∷ []) $ drop ! $ move ! (1 ∷ []) $ drop ! $
           move ! (3 ∷ []) $ split ! $ move ! (1 ∷ []) $ peeks ! U.the-row (Is U.the-row) (shown-by 𝓤 H A U.the-row) r (w₃ ∷ []) (λ ir.
           land ! (from ! (stop !)) (init ! 12 refl (LL.lawful U.the-type U′.the-laws 𝓤 H A W .typed r _ ir .0)) $ rewrite ! 12 (λ (u : Val). ‵ (fat fullShare U′.mir l9 0 u)) (ap only (LL.tells U.the-type U′.the-laws r _ ir)) refl $ drop ! $
           -- the lifetimes are ended, and what was lent comes back
@@ -384,14 +393,14 @@ module _ {M : Type 1} (𝓤 : URA M) (H : Heap 𝓤) (A : Atoms 𝓤) (W : Given
           move ! (1 ∷ []) $ drop ! $ split ! $ drop ! $ peeks ! Nothing (Is Nothing) (shown-by 𝓤 H A Nothing) u (w₄ ∷ []) (λ iu.
           land ! (from ! (stop !)) (init ! 22 refl (nothing-lawful 𝓤 H A W .typed u _ iu .0)) $ drop ! $
           -- the window goes on
-          nothing ! $ use1 W (raw (Past 𝓤 H A at-mem run .pre (to-past v (r .used)))) (goes-past v (r .used) (full-window v iv) (LL.owed U.the-type U′.the-laws r _ ir .1 .1 .0 .1) (subst (λ (j : ℕ). 0 < j) (sym same) pos)) $
+          nothing ! $ use1 W (raw (Past 𝓤 H A at-mem run .pre (to-past v (r .used)))) (goes-past v (r .used) (full-window v iv) (LL.owed U.the-type U′.the-laws r _ ir .1 .1 .0 .1)) $
           calls-at-last ! fm (Past 𝓤 H A at-mem run) known-past (to-past v (r .used)) (and-then ! (load ! (from ! (stop !)) (look ! 9 refl)) (and-then ! (load ! (from ! (fld ! refl (stop !))) (look-in ! 11 (sub ! 2 refl (whole !)))) (no-more !))) (λ w₅.
           use1 W (later (some (λ (n : Window). (‵ ftrue ⊛ ‵ (N.the-row .own n (w₅ ∷ []))) ⊛ raw (ensured 𝓤 H A past.ended (past.clauses 𝓤 H A at-mem run) tt (v, (r .used, tt)) tt n)))) (id⊢ 𝓤 _) $ await ! tt $ pick ! (λ n. split ! $
-          move ! (1 ∷ []) $ use1 W (raw (fact 𝓤 (n .turns < v .turns))) (past-of v (r .used) n) $ heard ! (n .turns < v .turns) (λ fewer. split ! $ drop ! $ peeks ! N.the-row (Is N.the-row) (shown-by 𝓤 H A N.the-row) n (w₅ ∷ []) (λ inn.
+          move ! (1 ∷ []) $ use1 W (raw (fact 𝓤 (n ≡ pastOf v (r .used)))) (past-of v (r .used) n) $ heard ! (n ≡ pastOf v (r .used)) (λ passed. split ! $ drop ! $ peeks ! N.the-row (Is N.the-row) (shown-by 𝓤 H A N.the-row) n (w₅ ∷ []) (λ inn.
           land-last ! (from ! (stop !)) (store ! 8 refl (LL.lawful N.the-type N′.the-laws 𝓤 H A W .typed n _ inn .0)) $ rewrite ! 8 (λ (u : Val). ‵ (fat fullShare N′.mir l6 0 u)) (ap only (LL.tells N.the-type N′.the-laws n _ inn)) refl $ drop ! $
           forget ! 8 refl $ forget ! 9 refl $ forget ! 10 refl $ forget ! 11 refl $ forget ! 12 refl $ forget ! 13 refl $ forget ! 14 refl $ forget ! 15 refl $ forget ! 16 refl $ forget ! 17 refl $ forget ! 18 refl $ forget ! 19 refl $ forget ! 20 refl $ forget ! 21 refl $ forget ! 22 refl $
           keep ! (5 ∷ 3 ∷ 1 ∷ 4 ∷ 2 ∷ 0 ∷ 6 ∷ 7 ∷ 8 ∷ 9 ∷ 10 ∷ 11 ∷ 12 ∷ 13 ∷ 14 ∷ 15 ∷ 16 ∷ 17 ∷ 18 ∷ 19 ∷ 20 ∷ 21 ∷ 22 ∷ 23 ∷ 24 ∷ 25 ∷ 26 ∷ 27 ∷ 28 ∷ 29 ∷ 30 ∷ 31 ∷ 32 ∷ 33 ∷ 34 ∷ 35 ∷ 36 ∷ 37 ∷ 38 ∷ 39 ∷ 40 ∷ 41 ∷ 42 ∷ 43 ∷ 44 ∷ 45 ∷ 46 ∷ 47 ∷ 48 ∷ 49 ∷ []) $
-          by ! (below (suc m) (n .turns) (turned (zs .0) n (zs .1 .0) (ps .1 .0) (zs .1 .1 .1 .0)) (subst (λ (j : ℕ). n .turns < j) (same ∙ f .turns) fewer) (record { turns = refl; is-assoc = ik; is-window = full-window n inn; len-gather = lg ∙ f .len-gather; len-piece = lp ∙ f .len-piece; len-out = lo ∙ f .len-out })))))))))))))))))))))))))))))))))))
+          by ! (below (suc m) (n .turns) (turned (zs .0) n (zs .1 .0) (ps .1 .0) (zs .1 .1 .1 .0)) (subst (λ (j : ℕ). n .turns < j) (filled .turns ∙ f .turns) (fewer v n (r .used) (subst (λ (j : ℕ). 0 < j) (sym (filled .turns)) pos) passed)) (record { turns = refl; is-assoc = ik; is-window = full-window n inn; len-gather = lg ∙ f .len-gather; len-piece = lp ∙ f .len-piece; len-out = lo ∙ f .len-out; made = makes v (ps .1 .0) filled pos (f .made) part answered passed })))))))))))))))))))))))))))))))))))))
 
       turn-at : (t : ℕ) (z : Turn) → Facts t z → ent 𝓤 (⋆ 𝓤 H A (At z)) (Wp 𝓤 H C Λ En code-mir.turn-1 (afterTurn 𝓤 H (Below t) Left))
       turn-at zero z f = ends z (Below 0) f
@@ -421,12 +430,12 @@ module _ {M : Type 1} (𝓤 : URA M) (H : Heap 𝓤) (A : Atoms 𝓤) (W : Given
           nothing ! $ use1 W (raw (Unread 𝓤 H A at-mem run .pre to-unread)) goes-unread $
           calls-at ! fm (Unread 𝓤 H A at-mem run) known-unread to-unread (no-more !) (λ w₀.
           use1 W (later (some (λ (v : Window). (‵ ftrue ⊛ ‵ (N.the-row .own v (w₀ ∷ []))) ⊛ raw (ensured 𝓤 H A unread.ended (unread.clauses 𝓤 H A at-mem run) tt tt tt v)))) (id⊢ 𝓤 _) $ await ! tt $ pick ! (λ v. split ! $
-          move ! (1 ∷ []) $ drop ! $ split ! $ drop ! $ peeks ! N.the-row (Is N.the-row) (shown-by 𝓤 H A N.the-row) v (w₀ ∷ []) (λ iv.
+          move ! (1 ∷ []) $ use1 W (raw (fact 𝓤 (v ≡ unreadOf))) (unread-of v) $ heard ! (v ≡ unreadOf) (λ fresh. split ! $ drop ! $ peeks ! N.the-row (Is N.the-row) (shown-by 𝓤 H A N.the-row) v (w₀ ∷ []) (λ iv.
           land ! (from ! (stop !)) (init ! 4 refl (LL.lawful N.the-type N′.the-laws 𝓤 H A W .typed v _ iv .0)) $ rewrite ! 4 (λ (u : Val). ‵ (fat fullShare N′.mir l6 0 u)) (ap only (LL.tells N.the-type N′.the-laws v _ iv)) refl $ drop ! $
           split ! $ move ! (1 ∷ []) $ split ! $ move ! (1 ∷ []) $ split ! $ move ! (1 ∷ []) $ drop ! $ move ! (3 ∷ []) $ fsplit ! $ drop ! $ fsplit ! $ move ! (1 ∷ []) $ fsplit ! $ move ! (1 ∷ []) $ fsplit ! $ move ! (1 ∷ []) $ drop ! $
           move ! (2 ∷ []) $ use1 W (‵ (held κg xg (xg .now))) (taken 𝓤 H A W (named 0) κg xg) $ move ! (2 ∷ []) $ use1 W (‵ (held κp xp (xp .now))) (taken 𝓤 H A W (named 1) κp xp) $ move ! (2 ∷ []) $ use1 W (‵ (held κo xo (xo .now))) (taken 𝓤 H A W (named 2) κo xo) $
           keep ! (5 ∷ 4 ∷ 3 ∷ 2 ∷ 1 ∷ 0 ∷ 6 ∷ 7 ∷ 8 ∷ 9 ∷ 10 ∷ 11 ∷ 12 ∷ 13 ∷ 14 ∷ 15 ∷ 16 ∷ 17 ∷ 18 ∷ 19 ∷ 20 ∷ 21 ∷ 22 ∷ 23 ∷ 24 ∷ 25 ∷ 26 ∷ 27 ∷ 28 ∷ 29 ∷ 30 ∷ 31 ∷ 32 ∷ 33 ∷ 34 ∷ 35 ∷ 36 ∷ 37 ∷ 38 ∷ 39 ∷ 40 ∷ 41 ∷ 42 ∷ 43 ∷ 44 ∷ 45 ∷ 46 ∷ 47 ∷ 48 ∷ 49 ∷ []) $
-          by ! (loops (v .turns) (turned h v (xg .now) (xp .now) (xo .now)) (record { turns = refl; is-assoc = ih; is-window = full-window v iv; len-gather = refl; len-piece = refl; len-out = refl })))))
+          by ! (loops (v .turns) (turned h v (xg .now) (xp .now) (xo .now)) (record { turns = refl; is-assoc = ih; is-window = full-window v iv; len-gather = refl; len-piece = refl; len-out = refl; made = subst (λ (n : Window). Loop (lent-of h (xg .now) (xo .now)) n (xp .now) (lent-of h (xg .now) (xo .now))) (sym fresh) (starts-loop (lent-of h (xg .now) (xo .now)) (xp .now)) }))))))
 
     -- the locals are made and the parameters put there, whatever the body
     abbrev fn-of : Body → Fn
