@@ -2,13 +2,13 @@
 -- Assumes nothing.
 use Prim.Native.Nat.{ℕ, _*_, _/_}
 use native.Mathlib.Omega.{arith}
-use mathlib.Core.Bool.{Bool, true, false, _&&_, cond}
+use mathlib.Core.Bool.{Bool, true, false, cond}
 use mathlib.Core.List.{List, [], _∷_, _++_, map}
 use mathlib.Core.Path.{_≡_, refl, sym, ap, _∙_}
 use lib.ListN.{length, take, drop, getD, length-map}
 use lib.Seq.{take-at, drop-at, drop-drop}
 use lib.Dec.{leb, eqb}
-use borrow.Author.Tests.{le-leb, leb-true, ne-eqb, eqb-true}
+use borrow.Author.Tests.{le-leb, ne-eqb, eqb-true}
 use Rattle.laws.specs.Lists.{all, distinct}
 use Rattle.laws.proofs.Booleans.{left-of, right-of, both-of}
 use Rattle.octets.specs.Put.{front}

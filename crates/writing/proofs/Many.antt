@@ -5,7 +5,7 @@ use Prim.Native.Nat.{ℕ, _+_, _-_, _*_, _/_, _≤_, _<_}
 use native.Mathlib.Omega.{arith}
 use mathlib.Core.Bool.{true, false, _&&_, and-false}
 use mathlib.Core.List.{List, [], _∷_, _++_, map}
-use mathlib.Core.Path.{_≡_, refl, sym, ap, _∙_}
+use mathlib.Core.Path.{_≡_, refl, ap}
 use lib.ListN.{length, replicate, length-append}
 use lib.Dec.{leb}
 use Rattle.laws.specs.Lists.{all, distinct, joined}
@@ -14,7 +14,7 @@ use Rattle.names.specs.Name.{nameOk}
 use Rattle.titles.specs.Title.{titleOk}
 use Rattle.names.proofs.NameLaws.{name-short}
 use Rattle.items.specs.Wire.{itemBytes, itemsBytes}
-use Rattle.items.proofs.WireLaws.{item-length, items-cons}
+use Rattle.items.proofs.WireLaws.{items-cons}
 use Rattle.octets.specs.Octets.{odd}
 use Rattle.sheets.specs.Contexts.{Context, contextId, contextOk, contextsOk}
 use Rattle.sheets.specs.Sheet.{recordBytes, contextRecords, sheetOf, contextsIn, proposalOk}
