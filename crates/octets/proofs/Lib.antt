@@ -1,3 +1,4 @@
 pub mod OctetLaws
 pub mod PutLaws
+pub mod Examples
 pub mod Agree

@@ -1,2 +1,3 @@
 pub mod DataLaws
+pub mod Examples
 pub mod Agree
