@@ -170,3 +170,8 @@ versions = (refl, refl)
 pub maxima : maximumOf (ac (application ++ (answer 1 0 ++ user))) ≡ 16384
 unfolding maximumOf maximumIn kindOf validAs whole acceptOk one transferOk good21H userGood good50H contextGood topGood topOk ids itemsOk step walkIn walk filled bodies types only goodBodies holds itemBytes nameOk be16 be32 among distinct
 maxima = refl
+
+-- a P-DATA-TF whose one PDV item fills it: of length 16,384, and of 16,385
+pub limits : (kindOf (pdu 4 (four 16380 ++ (1 ∷ 0 ∷ replicate 16378 0))) ≡ 4) × (kindOf (pdu 4 (four 16381 ++ (1 ∷ 0 ∷ replicate 16379 0))) ≡ 0)
+unfolding kindOf validAs whole dataOk pdvStep pdvsIn pdvs pdvOk pdvsOk be16 be32
+limits = (refl, refl)

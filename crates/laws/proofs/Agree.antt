@@ -27,9 +27,3 @@ abbrev pub AgreesPart : {X : Type 0} (n : ℕ) (ps : List (PK n)) (r : RK n) →
 AgreesPart n ps r Post part =
     (κs : Lfts n) (args : Dens κs ps) (a b : resT r κs .Denot) (x y : AtExit (endedOf n ps r) κs)
     → Post κs args a x → Post κs args b y → (ptr (part κs a) ≡ ptr (part κs b)) × (now (part κs a) ≡ now (part κs b))
-
--- what a contract permits at given arguments: a call that was given them has this answer, and leaves this in what it was lent
-abbrev pub Gives : (n : ℕ) (ps : List (PK n)) (r : RK n)
-    → Out n ps r → ((κs : Lfts n) → Dens κs ps → Type 0) → ((κs : Lfts n) → resT r κs .Denot → AtExit (endedOf n ps r) κs → Type 0) → Type 0
-Gives n ps r Post given answer =
-    (κs : Lfts n) (args : Dens κs ps) (a : resT r κs .Denot) (x : AtExit (endedOf n ps r) κs) → given κs args → Post κs args a x → answer κs a x

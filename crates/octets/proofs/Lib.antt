@@ -1,4 +1,5 @@
 pub mod OctetLaws
 pub mod PutLaws
 pub mod SliceLaws
+pub mod Examples
 pub mod Agree

@@ -1,3 +1,4 @@
 pub mod DataLaws
+pub mod Examples
 pub mod Agree
 pub mod Back

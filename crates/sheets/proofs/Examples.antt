@@ -4,6 +4,7 @@ use Prim.Native.Nat.{ℕ}
 use mathlib.Core.Bool.{true, false}
 use mathlib.Core.List.{List, [], _∷_, _++_}
 use mathlib.Core.Path.{_≡_, refl}
+use lib.ListN.{take}
 use Rattle.laws.specs.Lists.{among, distinct}
 use Rattle.laws.specs.Text.{bytes}
 use Rattle.names.specs.Name.{nameOk}
@@ -65,3 +66,16 @@ result-five = refl
 pub twice : answersOk (recordBytes 1 0 [] implicit ++ recordBytes 1 3 [] implicit) ≡ false
 unfolding nameOk among distinct transferOk answeredOk allAnsweredOk recordBytes recordsOf cap transferOf answeredOf answersIn fieldOk fieldsOk answers answersOk
 twice = refl
+
+-- result 1 in a proposal; an abstract name in an answer; an unused byte that is not zero
+pub proposed-result : proposalOk (recordBytes 1 1 verification implicit) ≡ false
+unfolding nameOk among distinct contextOk contextsOk recordBytes recordsOf cap abstractOf transferOf goesOn start runs contextsIn fieldOk fieldsOk proposes proposalOk
+proposed-result = refl
+
+pub answered-abstract : answersOk (recordBytes 1 0 verification implicit) ≡ false
+unfolding nameOk among distinct transferOk answeredOk allAnsweredOk recordBytes recordsOf cap transferOf answeredOf answersIn fieldOk fieldsOk answers answersOk
+answered-abstract = refl
+
+pub unused-byte : answersOk (take 131 (recordBytes 1 0 [] implicit) ++ (7 ∷ [])) ≡ false
+unfolding nameOk among distinct transferOk answeredOk allAnsweredOk recordBytes recordsOf cap transferOf answeredOf answersIn fieldOk fieldsOk answers answersOk
+unused-byte = refl
