@@ -47,7 +47,7 @@ pub fn read_abort(pdu: &[u8]) -> AbortRead
     }
     AbortRead {
         refusal: 0,
-        source: pdu[8],
-        reason: pdu[9],
+        source: pdu[8], // behind two reserved bytes
+        reason: pdu[9], // it says something where the source is 2
     }
 }
