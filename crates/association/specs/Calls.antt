@@ -31,7 +31,7 @@ unless refusal a g o done = cond (eqb refusal 0) done (call (refusedWith refusal
 abbrev pub withCount : Assoc → ℕ → Assoc
 withCount a n = record { state = a .state; gathered = n; deaf = a .deaf; artim = a .artim; requestor = a .requestor; «peer_max» = a .«peer_max» }
 
--- 6, 3, 6 for L, and "2: .. for receiving, always when below 10 bytes"
+-- 6, 3, 6 for L, and 2: "for receiving, always when below 10 bytes"
 unfoldable pub receiveRefusal : Assoc → List ℕ → List ℕ → ℕ
 receiveRefusal a g o = firstDue (recordTests a g 16390 ++ ((ltb (length o) 10, 2) ∷ []))
 

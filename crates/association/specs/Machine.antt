@@ -58,7 +58,7 @@ formOf action own = record { good = true; most = 16384; pdu = tenOf (tenBy actio
 formOf action bad = record { good = false; most = 0; pdu = [] }
 formOf action (given f) = f
 
--- "1: local event at a blank cell", then 4, 5 and 2 for what it sends into an output of so many bytes
+-- 1: "local event at a blank cell of Table 9-10"; then 4, 5 and 2 for what it sends into an output of so many bytes
 abbrev pub requestTests : Assoc → Local → ℕ → List (Bool × ℕ)
 requestTests a e room = (eqb (localAction a e) 0, 1) ∷ formTests (formOf (localAction a e) (sendsOf a e)) room
 

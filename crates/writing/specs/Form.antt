@@ -19,7 +19,7 @@ pub record Form : Type 0 where
   pub most : ℕ
   pub pdu : List ℕ
 
--- "4: bad contents ..; 5: PDU-length to be sent above 16,384, or a P-DATA-TF's above a non-zero peer maximum; 2: output too short"; "Output room is the PDU-length plus 6."
+-- 4: "bad contents"; 5: "PDU-length to be sent above 16,384, or a P-DATA-TF's above a non-zero peer maximum"; 2: "output too short". "Output room is the PDU-length plus 6."
 abbrev pub formTests : Form → ℕ → List (Bool × ℕ)
 formTests f room =
     (not (f .good), 4)
