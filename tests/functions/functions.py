@@ -4,9 +4,8 @@
     functions.py --write   writes that table anew
 
 A public function has a contract on its answer and no `requires`, and a theorem FUNCTION-agrees in its crate's proofs.
-A wrong answer is an edit that the prover must refuse, crates/NAME/must-fail/FUNCTION.WHAT.edit, of the code (src/) or of a definition (specs/), never of a proof; or a
-theorem FUNCTION-rules-out-WHAT that ends in ⊥, in its crate's proofs. A function that decides something has two, one of them at least an edit of its code; a thin one, that is
-one for C or of three lines or fewer, has one.
+A wrong answer is an edit that the prover must refuse, crates/NAME/must-fail/FUNCTION.WHAT.edit, of the code (src/) or of a definition (specs/), never of a proof. A function
+that decides something has two, one of them at least an edit of its code; a thin one, that is one for C or of three lines or fewer, has one.
 """
 import glob
 import os
@@ -77,14 +76,12 @@ def rows_of(crate):
                 wrong.append(f"{where} has no theorem {dashed}-agrees")
             code = [(what, path) for function, what, path, kind in tried if function == name and kind == "src"]
             specs = [(what, path) for function, what, path, kind in tried if function == name and kind == "specs"]
-            outs = [(theorem, path) for theorem, path in proved.items() if theorem.startswith(f"{dashed}-rules-out-")]
-            if len(code) + len(specs) + len(outs) < (1 if thin else 2):
-                wrong.append(f"{where} has {len(code) + len(specs) + len(outs)} wrong answers, of {1 if thin else 2}")
+            if len(code) + len(specs) < (1 if thin else 2):
+                wrong.append(f"{where} has {len(code) + len(specs)} wrong answers, of {1 if thin else 2}")
             if not code and not thin:
                 wrong.append(f"{where} has no edit of its code")
-            others = [link(what, path) for what, path in specs] + [f"[`{theorem}`](../{path})" for theorem, path in outs]
             agreement = f"[`{dashed}-agrees`](../{proved.get(f'{dashed}-agrees', '')})"
-            yield f"| {crate} | [`{name}`](../{source}) | {agreement} | {'; '.join(link(*c) for c in code)} | {'; '.join(others)} |"
+            yield f"| {crate} | [`{name}`](../{source}) | {agreement} | {'; '.join(link(*c) for c in code)} | {'; '.join(link(*c) for c in specs)} |"
         if text.count("\npub fn ") + text.count("\npub extern ") + text.startswith("pub fn ") != len(FUNCTION.findall(text)):
             wrong.append(f"{source}: a public function that this test cannot read")
     for function, what, path, _ in tried:
@@ -117,8 +114,8 @@ def main():
         else:
             definitions += without_code(crate)
     table = "\n".join(
-        ["| Crate | Function | Two answers agree | Wrong code, refused | Wrong definition refused, or answer ruled out |", "|---|---|---|---|---|", *functions, ""]
-        + ["The crates without code have edits of their definitions, or of a host or an engine, after which a theorem does not hold:", ""]
+        ["| Crate | Function | Two answers agree | Wrong code, refused | Wrong definition, refused |", "|---|---|---|---|---|", *functions, ""]
+        + ["The crates of theorems, which have no code, have edits of their definitions, of a host or of an engine among them, after which a theorem does not hold:", ""]
         + ["| Crate | Of | Wrong definition, refused |", "|---|---|---|", *definitions]
     )
     page = read(PAGE)

@@ -146,7 +146,7 @@ others =
     ∷ is 0 (pdu 4 [])
     ∷ is 5 (pdu 5 (0xDE ∷ 0xAD ∷ 0xBE ∷ 0xEF ∷ []))
     ∷ is 0 (pdu 5 (0 ∷ 0 ∷ 0 ∷ []))
-    ∷ is 6 (pdu 6 (0 ∷ 0 ∷ 0 ∷ 0 ∷ []))
+    ∷ is 6 (pdu 6 (0xDE ∷ 0xAD ∷ 0xBE ∷ 0xEF ∷ []))
     ∷ is 7 (pdu 7 (0xFF ∷ 0xFF ∷ 0 ∷ 9 ∷ []))
     ∷ is 0 (pdu 7 (0 ∷ 0 ∷ 1 ∷ 0 ∷ []))
     ∷ is 7 (pdu 7 (0 ∷ 0 ∷ 2 ∷ 6 ∷ []))

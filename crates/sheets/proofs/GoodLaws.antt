@@ -17,9 +17,9 @@ use Rattle.laws.proofs.Same.{same-equal}
 use Rattle.names.specs.Name.{nameOk}
 use Rattle.octets.specs.Octets.{odd}
 use Rattle.sheets.specs.Contexts.{Context, contextId, answeredId, contextOk, transferOk, answeredOk, contextsOk, allAnsweredOk}
-use Rattle.sheets.specs.Sheet.{recordId, abstractOf, transferOf, recordsOf, goesOn, firstTransfers, others, start, runs, contextsIn, answeredOf, answersIn, zero?, fieldOk, fieldsOk, proposes, answers, proposalOk, answersOk}
+use Rattle.sheets.specs.Sheet.{recordId, abstractOf, transferOf, recordsOf, goesOn, firstTransfers, others, start, runs, contextsIn, answeredOf, answersIn, zero?, fieldOk, fieldsOk, proposes, proposalRecord, answers, proposalOk, answersOk}
 use Rattle.sheets.specs.Record.{recordAt}
-use Rattle.sheets.specs.Parts.{proposalRecord, answerRecord, recordOk, idsIn}
+use Rattle.sheets.specs.Parts.{answerRecord, recordOk, idsIn}
 use Rattle.sheets.proofs.RunLaws.{records-cons, records-none, record-here, contexts-here, contexts-none, no-run}
 
 -- ---- `zeros`

@@ -2,15 +2,10 @@
 use Prim.Native.Nat.{ℕ}
 use mathlib.Core.Bool.{Bool, _&&_, cond}
 use mathlib.Core.List.{List, map}
-use Rattle.names.specs.Name.{nameOk}
-use Rattle.octets.specs.Octets.{odd}
 use Rattle.sheets.specs.Contexts.{answeredOk}
-use Rattle.sheets.specs.Sheet.{recordsOf, recordId, abstractOf, transferOf, answeredOf, proposes, answers}
+use Rattle.sheets.specs.Sheet.{recordsOf, recordId, answeredOf, answers, proposalRecord}
 
--- a record that may stand in a proposal, in an answer, or in the one of them that `answer` says
-unfoldable pub proposalRecord : List ℕ → Bool
-proposalRecord r = proposes r && (odd (recordId r) && (nameOk (abstractOf r) && nameOk (transferOf r)))
-
+-- a record that may stand in an answer, or in the one of the two that `answer` says
 unfoldable pub answerRecord : List ℕ → Bool
 answerRecord r = answers r && answeredOk (answeredOf r)
 

@@ -7,6 +7,8 @@ use mathlib.Core.List.{List, [], _∷_, _++_, map}
 use lib.ListN.{length, take, drop, getD, replicate}
 use lib.Dec.{leb, eqb}
 use Rattle.laws.specs.Lists.{all, records, sameBytes}
+use Rattle.octets.specs.Octets.{odd}
+use Rattle.names.specs.Name.{nameOk}
 use Rattle.sheets.specs.Contexts.{Context, Answered, contextsOk, allAnsweredOk}
 
 -- ---- from contexts to bytes
@@ -97,6 +99,10 @@ fieldsOk r = fieldOk (getD r 2 0) (take 64 (drop 4 r)) && fieldOk (getD r 3 0) (
 -- "result (0 in a proposal)"
 unfoldable pub proposes : List ℕ → Bool
 proposes r = eqb (getD r 1 0) 0 && fieldsOk r
+
+-- a record that may stand in a proposal
+unfoldable pub proposalRecord : List ℕ → Bool
+proposalRecord r = proposes r && (odd (recordId r) && (nameOk (abstractOf r) && nameOk (transferOf r)))
 
 -- "In an answer the abstract length is 0"
 unfoldable pub answers : List ℕ → Bool

@@ -17,9 +17,8 @@ use Rattle.items.specs.Wire.{itemBytes, itemsBytes}
 use Rattle.items.proofs.WireLaws.{items-cons}
 use Rattle.octets.specs.Octets.{odd}
 use Rattle.sheets.specs.Contexts.{Context, contextId, contextOk, contextsOk}
-use Rattle.sheets.specs.Sheet.{recordBytes, contextRecords, sheetOf, contextsIn, proposalOk}
+use Rattle.sheets.specs.Sheet.{recordBytes, contextRecords, sheetOf, contextsIn, proposalRecord, proposalOk}
 use Rattle.sheets.specs.Record.{recordAt}
-use Rattle.sheets.specs.Parts.{proposalRecord}
 use Rattle.sheets.proofs.RecordLaws.{record-length}
 use Rattle.sheets.proofs.GoodLaws.{bad-record}
 use Rattle.sheets.proofs.Inverse.{proposal-contexts, proposal-back}
