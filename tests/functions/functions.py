@@ -4,8 +4,9 @@
     functions.py --write   writes that table anew
 
 A public function has a contract on its answer and no `requires`, and a theorem FUNCTION-agrees in its crate's proofs.
-A wrong answer is an edit that the prover must refuse, crates/NAME/must-fail/FUNCTION.WHAT.edit, of the code (src/) or of a definition (specs/), never of a proof. A function
-that decides something has two, one of them at least an edit of its code; a thin one, that is one for C or of three lines or fewer, has one.
+A wrong answer is an edit that the prover must refuse, crates/NAME/must-fail/FUNCTION.WHAT.edit, of the code (src/), of a contract (an
+`ensures` in src/) or of a definition (specs/), never of a proof: the last two are counted apart from code. A function that decides something
+has two, one of them at least an edit of its code; a thin one, that is one for C or of three lines or fewer, has one.
 """
 import glob
 import os
@@ -32,8 +33,21 @@ def crates():
             yield name
 
 
+def in_contract(crate, edit):
+    """whether every change that an edit makes below src/ is of a contract, and none of code"""
+    file = ""
+    for line in edit.split("\n"):
+        if line.startswith("file: "):
+            file = line[6:].strip()
+        elif line.startswith("old: ") and file.startswith("src/"):
+            before = read(f"crates/{crate}/{file}").split(line[5:])[0]
+            if before.rfind("ensures {") <= before.rfind("\n{\n"):
+                return False
+    return True
+
+
 def edits(crate):
-    """(function, what, path, kind) of each edit: kind is 'src', where any code is changed, or 'specs'"""
+    """(function, what, path, kind) of each edit: kind is 'code', where any code is changed, 'contract' or 'specs'"""
     for path in sorted(os.path.join(root, name) for root, _, names in os.walk(f"crates/{crate}/must-fail") for name in names):
         parts = os.path.basename(path).split(".")
         if os.path.islink(path) or len(parts) != 3 or parts[2] != "edit" or os.path.dirname(path) != f"crates/{crate}/must-fail":
@@ -42,7 +56,8 @@ def edits(crate):
         folders = {found.split("/")[0] for found in re.findall(r"^file: (\S+)", read(path), re.M)}
         if not folders or not folders <= {"src", "specs"}:
             wrong.append(f"{path}: changes {', '.join(sorted(folders)) or 'nothing'}; an edit is of src/ or specs/")
-        yield parts[0], parts[1], path, "src" if "src" in folders else "specs"
+        kind = "specs" if "src" not in folders else "contract" if in_contract(crate, read(path)) else "code"
+        yield parts[0], parts[1], path, kind
 
 
 def theorems(crate):
@@ -74,8 +89,8 @@ def rows_of(crate):
                 wrong.append(f"{where} has a `requires`")
             if f"{dashed}-agrees" not in proved:
                 wrong.append(f"{where} has no theorem {dashed}-agrees")
-            code = [(what, path) for function, what, path, kind in tried if function == name and kind == "src"]
-            specs = [(what, path) for function, what, path, kind in tried if function == name and kind == "specs"]
+            code = [(what, path) for function, what, path, kind in tried if function == name and kind == "code"]
+            specs = [(what, path) for function, what, path, kind in tried if function == name and kind != "code"]
             if len(code) + len(specs) < (1 if thin else 2):
                 wrong.append(f"{where} has {len(code) + len(specs)} wrong answers, of {1 if thin else 2}")
             if not code and not thin:
@@ -114,7 +129,7 @@ def main():
         else:
             definitions += without_code(crate)
     table = "\n".join(
-        ["| Crate | Function | Two answers agree | Wrong code, refused | Wrong definition, refused |", "|---|---|---|---|---|", *functions, ""]
+        ["| Crate | Function | Two answers agree | Wrong code, refused | Wrong definition or contract, refused |", "|---|---|---|---|---|", *functions, ""]
         + ["The crates of theorems, which have no code, have edits of their definitions, of a host or of an engine among them, after which a theorem does not hold:", ""]
         + ["| Crate | Of | Wrong definition, refused |", "|---|---|---|", *definitions]
     )
@@ -133,7 +148,10 @@ def main():
     if wrong:
         sys.exit(f"{len(wrong)} wrong")
     all_edits = [kind for crate in crates() for _, _, _, kind in edits(crate)]
-    print(f"{len(functions)} public functions agree and have their wrong answers; {all_edits.count('src')} edits of code, {all_edits.count('specs')} of definitions")
+    print(
+        f"{len(functions)} public functions agree and have their wrong answers; {all_edits.count('code')} edits of code, "
+        f"{all_edits.count('contract')} of contracts, {all_edits.count('specs')} of definitions"
+    )
 
 
 main()

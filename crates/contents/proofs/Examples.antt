@@ -16,14 +16,15 @@ use Rattle.contents.specs.Contents.{one, subsOk, good20H, transferOk, go
 abbrev named : ℕ → List ℕ
 named t = itemBytes t (bytes "1")
 
+-- with rubbish in their reserved bytes
 abbrev context : ℕ → List ℕ → List ℕ
-context id subs = itemBytes 0x20 (id ∷ 0 ∷ 0 ∷ 0 ∷ subs)
+context id subs = itemBytes 0x20 (id ∷ 0xDE ∷ 0xAD ∷ 0xBE ∷ subs)
 
 abbrev proposed : ℕ → List ℕ
 proposed id = context id (named 0x30 ++ named 0x40)
 
 abbrev answer : List ℕ → List ℕ
-answer subs = itemBytes 0x21 (1 ∷ 0 ∷ 0 ∷ 0 ∷ subs)
+answer subs = itemBytes 0x21 (1 ∷ 0xDE ∷ 0 ∷ 0xAD ∷ subs)
 
 abbrev maximum : List ℕ
 maximum = itemBytes 0x51 (0 ∷ 0 ∷ 0x40 ∷ 0 ∷ [])
