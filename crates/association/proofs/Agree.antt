@@ -7,10 +7,10 @@ use Rattle.association.proofs.refusals.length_field as length-field
 use Rattle.association.proofs.refusals.record_refusal as record-refusal
 use Rattle.association.proofs.refusals.refused as refused
 use Rattle.association.proofs.events.event_of_kind as event-of-kind
-use Rattle.association.proofs.events.abort_of as abort-of
+use Rattle.association.proofs.events.abort_for as abort-for
 use Rattle.association.proofs.events.local_cell as local-cell
-use Rattle.association.proofs.deeds.after as after
-use Rattle.association.proofs.deeds.ten_by as ten-by
+use Rattle.association.proofs.performing.after as after
+use Rattle.association.proofs.performing.ten_by as ten-by
 
 pub fresh-agrees : Agrees 0 fresh.Kinds.ps fresh.Kinds.r fresh.Reads.Post
 fresh-agrees κs args a b x y p q = agree p q
@@ -30,8 +30,8 @@ refused-agrees κs args a b x y p q = agree p q
 pub event-of-kind-agrees : Agrees 0 event-of-kind.Kinds.ps event-of-kind.Kinds.r event-of-kind.Reads.Post
 event-of-kind-agrees κs args a b x y p q = agree p q
 
-pub abort-of-agrees : Agrees 0 abort-of.Kinds.ps abort-of.Kinds.r abort-of.Reads.Post
-abort-of-agrees κs args a b x y p q = agree p q
+pub abort-for-agrees : Agrees 0 abort-for.Kinds.ps abort-for.Kinds.r abort-for.Reads.Post
+abort-for-agrees κs args a b x y p q = agree p q
 
 pub local-cell-agrees : Agrees 0 local-cell.Kinds.ps local-cell.Kinds.r local-cell.Reads.Post
 local-cell-agrees κs args a b x y p q = agree p q

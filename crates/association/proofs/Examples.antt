@@ -6,12 +6,12 @@ use mathlib.Core.Path.{_≡_, refl}
 use mathlib.Core.List.{[], _∷_}
 use Rattle.laws.specs.Lists.{among}
 use Rattle.writing.specs.Ten.{ABORT-UNRECOGNIZED, ABORT-UNEXPECTED}
-use Rattle.table.specs.Names.{AE-5, AR-3}
+use Rattle.table.specs.ActionNames.{AE-5, AR-3}
 use Rattle.table.specs.Actions.{actions, doesOf, nextOf, artimOf}
 use Rattle.table.specs.Table.{table, cellOf, isReceived}
 use Rattle.association.specs.declared.Assoc.{Assoc}
 use Rattle.association.specs.Record.{idle, dropping}
-use Rattle.association.specs.Deeds.{requestorAfter, entering, after, abortFor}
+use Rattle.association.specs.Performing.{requestorAfter, entering, after, abortFor}
 use Rattle.association.specs.Machine.{localCell}
 
 -- a requestor, in a state

@@ -1,6 +1,6 @@
 pub mod RefusalLaws
 pub mod OrderLaws
-pub mod DeedLaws
+pub mod PerformingLaws
 pub mod MarkLaws
 pub mod Examples
 pub mod Agree

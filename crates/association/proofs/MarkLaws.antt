@@ -6,10 +6,10 @@ use mathlib.Core.Bool.{Bool, true, false, cond, _||_}
 use lib.Dec.{eqb}
 use borrow.Author.Tests.{ne-eqb}
 use Rattle.laws.proofs.Booleans.{held}
-use Rattle.table.specs.Names.{AE-1}
+use Rattle.table.specs.ActionNames.{AE-1}
 use Rattle.table.specs.Actions.{actions, doesOf, nextOf}
 use Rattle.association.specs.declared.Assoc.{Assoc}
-use Rattle.association.specs.Deeds.{Input, brings, requestorAfter, entering, after}
+use Rattle.association.specs.Performing.{Input, brings, requestorAfter, entering, after}
 use Rattle.association.specs.Machine.{doing}
 
 pub mark-set : (number : ℕ) (a : Assoc) (i : Input) → doing AE-1 number a i .next .requestor ≡ true

@@ -9,7 +9,7 @@ use lib.Dec.{eqb, ltb}
 use lib.ListN.{length}
 use borrow.Author.Tests.{ltb-false, eqb-false}
 use Rattle.laws.proofs.Refusals.{not-due, due-both, due-neither}
-use Rattle.writing.specs.Form.{refusalOf}
+use Rattle.writing.specs.Form.{formRefusal}
 use Rattle.writing.proofs.FormLaws.{refusal-due}
 use Rattle.association.specs.declared.Assoc.{Assoc}
 use Rattle.association.specs.Record.{broken, badLength}
@@ -48,14 +48,14 @@ module _ (a : Assoc) (g o : List ℕ) where
 
 -- ---- a local event
 module _ (a : Assoc) (e : Local) (room : ℕ) where
-  pub request-steps : requestRefusal a e room ≡ cond (eqb (localAction a e) 0) 1 (refusalOf (formOf (localAction a e) (sendsOf a e)) room)
+  pub request-steps : requestRefusal a e room ≡ cond (eqb (localAction a e) 0) 1 (formRefusal (formOf (localAction a e) (sendsOf a e)) room)
   unfolding requestRefusal
   request-steps = ap (λ (n : ℕ). cond (eqb (localAction a e) 0) 1 n) (refusal-due (formOf (localAction a e) (sendsOf a e)) room)
 
   -- its cell is filled, and what it sends is not refused
-  pub request-passed : requestRefusal a e room ≡ 0 → (localAction a e ≡ 0 → ⊥) × (refusalOf (formOf (localAction a e) (sendsOf a e)) room ≡ 0)
+  pub request-passed : requestRefusal a e room ≡ 0 → (localAction a e ≡ 0 → ⊥) × (formRefusal (formOf (localAction a e) (sendsOf a e)) room ≡ 0)
   request-passed z =
-      let p = not-due (eqb (localAction a e) 0) 1 (refusalOf (formOf (localAction a e) (sendsOf a e)) room) (λ q. omega arith) (sym request-steps ∙ z) in
+      let p = not-due (eqb (localAction a e) 0) 1 (formRefusal (formOf (localAction a e) (sendsOf a e)) room) (λ q. omega arith) (sym request-steps ∙ z) in
       (eqb-false _ _ (p .0), p .1)
 
 module _ (a : Assoc) (g o : List ℕ) (e : Local) where

@@ -35,7 +35,7 @@ withCount a n = record { state = a .state; gathered = n; deaf = a .deaf; artim =
 unfoldable pub receiveRefusal : Assoc → List ℕ → List ℕ → ℕ
 receiveRefusal a g o = firstDue (recordTests a g 16390 ++ ((ltb (length o) 10, 2) ∷ []))
 
-abbrev pub lentOf : Assoc → List ℕ → List ℕ → eng.Lent upper
+abbrev pub lentOf : Assoc → List ℕ → List ℕ → eng.EngineState upper
 lentOf a g o = record { state = withCount a 0; count = a .gathered; gather = g; out = o }
 
 abbrev pub actionOf : Option Seen → ℕ
@@ -43,7 +43,7 @@ actionOf none = 0
 actionOf (some s) = s .action
 
 -- the engine's answer as the call's
-unfoldable pub heard : eng.Answer upper → Call
+unfoldable pub heard : eng.EngineAnswer upper → Call
 heard x =
     record {
       answer =

@@ -12,8 +12,8 @@ use Rattle.association.specs.declared.Assoc.{Assoc}
 -- ---- received
 
 -- "Unrecognized or invalid PDU received"
-abbrev pub invalid : ℕ
-invalid = 19
+abbrev pub invalidPdu : ℕ
+invalidPdu = 19
 
 -- the event of a valid PDU of a kind, 1 to 7, or else `invalid`
 unfoldable pub eventOfKind : ℕ → ℕ
@@ -25,7 +25,7 @@ eventOfKind kind =
     (cond (eqb kind 5) 12  -- A-RELEASE-RQ
     (cond (eqb kind 6) 13  -- A-RELEASE-RP
     (cond (eqb kind 7) 16  -- A-ABORT
-    invalid))))))
+    invalidPdu))))))
 
 -- the event that a completed PDU brings to an association
 unfoldable pub eventOf : Assoc → List ℕ → ℕ

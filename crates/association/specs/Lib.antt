@@ -1,6 +1,6 @@
 pub mod Record
 pub mod Refusals
 pub mod Events
-pub mod Deeds
+pub mod Performing
 pub mod Machine
 pub mod Calls

@@ -12,10 +12,10 @@ use Rattle.writing.specs.Form.{Form, formTests}
 use Rattle.writing.specs.Ten.{tenOf, NONE}
 use Rattle.association.specs.declared.Assoc.{Assoc}
 use Rattle.association.specs.Record.{dropping}
-use Rattle.association.specs.Events.{Local, Sends, eventOf, invalid, numberOf, sendsOf}
+use Rattle.association.specs.Events.{Local, Sends, eventOf, invalidPdu, numberOf, sendsOf}
 use Rattle.association.specs.Events.{Sends.own, Sends.bad, Sends.given}
-use Rattle.association.specs.Deeds.{Input, brings, after, sentBy, tenBy}
-use Rattle.association.specs.Deeds.{Input.whole, Input.long, Input.bare, Input.contents}
+use Rattle.association.specs.Performing.{Input, brings, after, sentBy, tenBy}
+use Rattle.association.specs.Performing.{Input.whole, Input.long, Input.bare, Input.contents}
 
 -- what a host is told of an event: the action, and the state after
 pub record Seen : Type 0 where
@@ -78,6 +78,6 @@ upper =
       limit = 16384;
       drops = dropping;
       onPdu = λ a pdu. onEvent (eventOf a pdu) a (whole pdu);
-      onLong = λ a. onEvent invalid a long;
+      onLong = λ a. onEvent invalidPdu a long;
       onLocal = λ a e. cond (eqb (requestRefusal a e 16390) 0) (some (onLocal a e)) none;
     }

@@ -1,7 +1,7 @@
 // The events by their numbers.
 ghost use mathlib.Core.Path.{_≡_};
 ghost use Rattle.association.specs.Events.{eventOfKind};
-ghost use Rattle.association.specs.Deeds.{abortFor};
+ghost use Rattle.association.specs.Performing.{abortFor};
 ghost use Rattle.association.specs.Machine.{localCell};
 
 // The event of a PDU of a kind, 1 to 7, or of an invalid one.
@@ -33,7 +33,7 @@ pub fn event_of_kind(kind: u8) -> u8
 }
 
 // The number of the A-ABORT by which a received PDU of a type is answered at an event.
-pub fn abort_of(event: u8, first: u8) -> u8
+pub fn abort_for(event: u8, first: u8) -> u8
     ensures { λ r. ⌜ r ≡ abortFor event first ⌝ }
 {
     if event != 19 {

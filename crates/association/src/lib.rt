@@ -1,13 +1,13 @@
 // The association record by value, the refusals that it is tested for, and what an action makes of it.
-mod deeds;
 mod events;
+mod performing;
 mod refusals;
 
-pub use deeds::after;
-pub use deeds::ten_by;
-pub use events::abort_of;
+pub use events::abort_for;
 pub use events::event_of_kind;
 pub use events::local_cell;
+pub use performing::after;
+pub use performing::ten_by;
 pub use refusals::dropping;
 pub use refusals::fresh;
 pub use refusals::length_field;

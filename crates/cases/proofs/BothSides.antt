@@ -24,7 +24,7 @@ use Rattle.table.specs.Actions.{actions, doesOf, nextOf, showsOf, artimOf}
 use Rattle.association.specs.Record.{dropping, timed, strayState, overfull, strayDeaf, mistimed, badLength, markedIdle, clauses, broken}
 use Rattle.association.specs.Refusals.{recordRefusal}
 use Rattle.association.specs.Events.{eventOfKind, eventOf}
-use Rattle.association.specs.Deeds.{acceptsAt, peerAt, requestorAfter, entering, after, abortFor, tenBy}
+use Rattle.association.specs.Performing.{acceptsAt, peerAt, requestorAfter, entering, after, abortFor, tenBy}
 use Rattle.association.specs.Machine.{doing, onEvent}
 use Rattle.association.specs.Calls.{receiveRefusal, heard, receiveOf}
 use Rattle.cases.specs.Cases.{Row, cases, gives}

@@ -8,7 +8,7 @@ use Rattle.laws.specs.Text.{bytes}
 use Rattle.names.specs.Name.{nameOk}
 use Rattle.titles.specs.Title.{titlesEqual}
 use Rattle.judging.specs.Pdu.{kindOf}
-use Rattle.table.specs.Names.{AE-6, AR-6, AR-8, AA-7, AA-8}
+use Rattle.table.specs.ActionNames.{AE-6, AR-6, AR-8, AA-7, AA-8}
 use Rattle.association.specs.Record.{timed}
 use Rattle.association.specs.Calls.{Call, receiveOf}
 
@@ -42,13 +42,13 @@ abbrev differs : Outcome
 differs = says false
 
 -- what a host sees of a call
-abbrev pub seen : Call → Outcome
-seen c =
+abbrev pub seenAs : Call → Outcome
+seenAs c =
     did (c .answer .told .used) (c .answer .told .action) (c .answer .assoc .state) (c .answer .assoc .deaf) (c .answer .told .shown) (take (c .answer .told .sent) (c .out))
 
 abbrev pub gives : Question → Outcome
 gives (receive s q p) =
-    seen
+    seenAs
     (receiveOf (record { state = s; gathered = 0; deaf = false; artim = timed s; requestor = q; «peer_max» = 0 }) (replicate 16390 0) p (replicate 10 0))
 gives (equal a b) = says (titlesEqual a b)
 gives (pdu p) = says (not (eqb (kindOf p) 0))
@@ -62,8 +62,8 @@ requestor = true
 abbrev acceptor : Bool
 acceptor = false
 
-abbrev abort : ℕ → ℕ → List ℕ
-abort source reason = 0x07 ∷ 0x00 ∷ 0x00 ∷ 0x00 ∷ 0x00 ∷ 0x04 ∷ 0x00 ∷ 0x00 ∷ source ∷ reason ∷ []
+abbrev abortPdu : ℕ → ℕ → List ℕ
+abortPdu source reason = 0x07 ∷ 0x00 ∷ 0x00 ∷ 0x00 ∷ 0x00 ∷ 0x04 ∷ 0x00 ∷ 0x00 ∷ source ∷ reason ∷ []
 
 abbrev releaseRq : List ℕ
 releaseRq = 0x05 ∷ 0x00 ∷ 0x00 ∷ 0x00 ∷ 0x00 ∷ 0x04 ∷ 0x00 ∷ 0x00 ∷ 0x00 ∷ 0x00 ∷ []
@@ -88,46 +88,46 @@ pub record Row : Type 0 where
   pub asked : Question
   pub answered : Outcome
 
-abbrev row : Question → Outcome → Row
-row q a = record { asked = q; answered = a }
+abbrev asks : Question → Outcome → Row
+asks q a = record { asked = q; answered = a }
 
 unfoldable pub cases : List Row
 cases =
     -- 1: Sta6, type 08H, length 16,384: at byte 16,390, `07 00 00 00 00 04 00 00 02 01`
-    row (receive 6 acceptor (0x08 ∷ 0x00 ∷ 0x00 ∷ 0x00 ∷ 0x40 ∷ 0x00 ∷ replicate 16383 0xFF)) (did 16389 0 6 false 0 [])
-    ∷ row (receive 6 acceptor (0x08 ∷ 0x00 ∷ 0x00 ∷ 0x00 ∷ 0x40 ∷ 0x00 ∷ replicate 16385 0xFF))
+    asks (receive 6 acceptor (0x08 ∷ 0x00 ∷ 0x00 ∷ 0x00 ∷ 0x40 ∷ 0x00 ∷ replicate 16383 0xFF)) (did 16389 0 6 false 0 [])
+    ∷ asks (receive 6 acceptor (0x08 ∷ 0x00 ∷ 0x00 ∷ 0x00 ∷ 0x40 ∷ 0x00 ∷ replicate 16385 0xFF))
     (did 16390 AA-8 13 false 0 (0x07 ∷ 0x00 ∷ 0x00 ∷ 0x00 ∷ 0x00 ∷ 0x04 ∷ 0x00 ∷ 0x00 ∷ 0x02 ∷ 0x01 ∷ []))
     -- 2: length 16,385: at byte 6, last byte `06`, deaf
-    ∷ row (receive 6 acceptor (0x08 ∷ 0x00 ∷ 0x00 ∷ 0x00 ∷ 0x40 ∷ [])) (did 5 0 6 false 0 [])
-    ∷ row (receive 6 acceptor (0x08 ∷ 0x00 ∷ 0x00 ∷ 0x00 ∷ 0x40 ∷ 0x01 ∷ 0xFF ∷ []))
+    ∷ asks (receive 6 acceptor (0x08 ∷ 0x00 ∷ 0x00 ∷ 0x00 ∷ 0x40 ∷ [])) (did 5 0 6 false 0 [])
+    ∷ asks (receive 6 acceptor (0x08 ∷ 0x00 ∷ 0x00 ∷ 0x00 ∷ 0x40 ∷ 0x01 ∷ 0xFF ∷ []))
     (did 6 AA-8 13 true 0 (0x07 ∷ 0x00 ∷ 0x00 ∷ 0x00 ∷ 0x00 ∷ 0x04 ∷ 0x00 ∷ 0x00 ∷ 0x02 ∷ 0x06 ∷ []))
     -- 4: " STORE-EQUINE   " equals STORE-EQUINE padded; STORE-EXOTIC differs
-    ∷ row (equal (bytes " STORE-EQUINE   ") (bytes "STORE-EQUINE    ")) same
-    ∷ row (equal (bytes " STORE-EQUINE   ") (bytes "STORE-EXOTIC    ")) differs
+    ∷ asks (equal (bytes " STORE-EQUINE   ") (bytes "STORE-EQUINE    ")) same
+    ∷ asks (equal (bytes " STORE-EQUINE   ") (bytes "STORE-EXOTIC    ")) differs
     -- 5: RELEASE-RQ in Sta7: requestor to Sta9, acceptor to Sta10
-    ∷ row (receive 7 requestor releaseRq) (did 10 AR-8 9 false 0 [])
-    ∷ row (receive 7 acceptor releaseRq) (did 10 AR-8 10 false 0 [])
+    ∷ asks (receive 7 requestor releaseRq) (did 10 AR-8 9 false 0 [])
+    ∷ asks (receive 7 acceptor releaseRq) (did 10 AR-8 10 false 0 [])
     -- 6: P-DATA-TF in Sta7 AR-6; in Sta8 AA-8
-    ∷ row (receive 7 acceptor data-tf) (did 12 AR-6 7 false 12 [])
-    ∷ row (receive 8 acceptor data-tf) (did 12 AA-8 13 false 0 (abort 2 2))
+    ∷ asks (receive 7 acceptor data-tf) (did 12 AR-6 7 false 12 [])
+    ∷ asks (receive 8 acceptor data-tf) (did 12 AA-8 13 false 0 (abortPdu 2 2))
     -- 7: RQ in Sta13: AA-7, source 2, reason 2
-    ∷ row (receive 13 acceptor (rq 0x01)) (did 161 AA-7 13 false 0 (abort 2 2))
+    ∷ asks (receive 13 acceptor (rq 0x01)) (did 161 AA-7 13 false 0 (abortPdu 2 2))
     -- 8: ABORT source 1 invalid; source 0, reason 9 valid
-    ∷ row (pdu (abort 1 0)) invalid
-    ∷ row (pdu (abort 0 9)) valid
+    ∷ asks (pdu (abortPdu 1 0)) invalid
+    ∷ asks (pdu (abortPdu 0 9)) valid
     -- 9: PDV length 1 invalid, 2 valid; P-DATA-TF length 0 invalid
-    ∷ row (pdu (0x04 ∷ 0x00 ∷ 0x00 ∷ 0x00 ∷ 0x00 ∷ 0x05 ∷ 0x00 ∷ 0x00 ∷ 0x00 ∷ 0x01 ∷ 0x01 ∷ [])) invalid
-    ∷ row (pdu (0x04 ∷ 0x00 ∷ 0x00 ∷ 0x00 ∷ 0x00 ∷ 0x06 ∷ 0x00 ∷ 0x00 ∷ 0x00 ∷ 0x02 ∷ 0x01 ∷ 0x03 ∷ [])) valid
-    ∷ row (pdu (0x04 ∷ 0x00 ∷ 0x00 ∷ 0x00 ∷ 0x00 ∷ 0x00 ∷ [])) invalid
+    ∷ asks (pdu (0x04 ∷ 0x00 ∷ 0x00 ∷ 0x00 ∷ 0x00 ∷ 0x05 ∷ 0x00 ∷ 0x00 ∷ 0x00 ∷ 0x01 ∷ 0x01 ∷ [])) invalid
+    ∷ asks (pdu (0x04 ∷ 0x00 ∷ 0x00 ∷ 0x00 ∷ 0x00 ∷ 0x06 ∷ 0x00 ∷ 0x00 ∷ 0x00 ∷ 0x02 ∷ 0x01 ∷ 0x03 ∷ [])) valid
+    ∷ asks (pdu (0x04 ∷ 0x00 ∷ 0x00 ∷ 0x00 ∷ 0x00 ∷ 0x00 ∷ [])) invalid
     -- 10: names "1.0" and "0" valid; "1.02", "1.2." and empty invalid; 64 bytes can be valid, 65 never
-    ∷ row (name (bytes "1.0")) valid
-    ∷ row (name (bytes "0")) valid
-    ∷ row (name (bytes "1.02")) invalid
-    ∷ row (name (bytes "1.2.")) invalid
-    ∷ row (name (bytes "")) invalid
-    ∷ row (name (bytes "1.2.840.10008.1234567890.1234567890.1234567890.1234567890.123456")) valid
-    ∷ row (name (bytes "1.2.840.10008.1234567890.1234567890.1234567890.1234567890.1234567")) invalid
+    ∷ asks (name (bytes "1.0")) valid
+    ∷ asks (name (bytes "0")) valid
+    ∷ asks (name (bytes "1.02")) invalid
+    ∷ asks (name (bytes "1.2.")) invalid
+    ∷ asks (name (bytes "")) invalid
+    ∷ asks (name (bytes "1.2.840.10008.1234567890.1234567890.1234567890.1234567890.123456")) valid
+    ∷ asks (name (bytes "1.2.840.10008.1234567890.1234567890.1234567890.1234567890.1234567")) invalid
     -- 11: version 0002H rejected, 0003H accepted
-    ∷ row (receive 2 acceptor (rq 0x02)) (did 161 AE-6 13 false 0 (0x03 ∷ 0x00 ∷ 0x00 ∷ 0x00 ∷ 0x00 ∷ 0x04 ∷ 0x00 ∷ 0x01 ∷ 0x02 ∷ 0x02 ∷ []))
-    ∷ row (receive 2 acceptor (rq 0x03)) (did 161 AE-6 3 false 161 [])
+    ∷ asks (receive 2 acceptor (rq 0x02)) (did 161 AE-6 13 false 0 (0x03 ∷ 0x00 ∷ 0x00 ∷ 0x00 ∷ 0x00 ∷ 0x04 ∷ 0x00 ∷ 0x01 ∷ 0x02 ∷ 0x02 ∷ []))
+    ∷ asks (receive 2 acceptor (rq 0x03)) (did 161 AE-6 3 false 161 [])
     ∷ []

@@ -12,10 +12,10 @@ use Rattle.laws.proofs.Tests.{deciding}
 use Rattle.octets.specs.Octets.{be32}
 use Rattle.names.specs.Name.{nameOk}
 use Rattle.items.specs.Items.{Walk, walk, bodies, first, goodBodies}
-use Rattle.items.specs.Inner.{keeps}
+use Rattle.items.specs.Private.Rules.{keeps}
 use Rattle.items.proofs.RuleLaws.{keeping}
-use Rattle.contents.specs.Contents.{answerKnown, userKnown, named, one, subsOk, transferOk, userGood, topOk, maximumIn}
-use Rattle.contents.specs.Inner.{subRule, topRule}
+use Rattle.contents.specs.Contents.{answerKnown, userKnown, named, one, subsOk, transferItemOk, userGood, topOk, maximumIn}
+use Rattle.contents.specs.Private.Order.{subRule, topRule}
 use Rattle.contents.proofs.OrderLaws.{sub-is, top-is}
 use Rattle.contents.proofs.GoodLaws.{one-good}
 
@@ -36,7 +36,7 @@ pub ruleset counting = (deciding, eqb-is, transfer-is, maximum-fits, needs)
 pub tail-subs : (r : Bool) (b : List ℕ) → r ≡ subsOk (walk (take (length b - 4) (drop 4 b))) → r ≡ subsOk (walk (drop 4 b))
 tail-subs r b e = e ∙ rw (part-tail 4 b)
 
-pub tail-transfer : (r : Bool) (result : ℕ) (b : List ℕ) → r ≡ transferOk result (walk (take (length b - 4) (drop 4 b))) → r ≡ transferOk result (walk (drop 4 b))
+pub tail-transfer : (r : Bool) (result : ℕ) (b : List ℕ) → r ≡ transferItemOk result (walk (take (length b - 4) (drop 4 b))) → r ≡ transferItemOk result (walk (drop 4 b))
 tail-transfer r result b e = e ∙ rw (part-tail 4 b)
 
 pub ruleset bodied = (deciding, tail-subs, tail-transfer, needs)

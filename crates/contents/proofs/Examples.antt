@@ -10,7 +10,7 @@ use Rattle.octets.specs.Octets.{be16}
 use Rattle.names.specs.Name.{nameOk}
 use Rattle.items.specs.Items.{step, walkIn, walk, filled, bodies, types, only, goodBodies, holds}
 use Rattle.items.specs.Wire.{itemBytes}
-use Rattle.contents.specs.Contents.{one, subsOk, good20H, transferOk, good21H, userGood, good50H, contextGood, topGood, topOk, ids, itemsOk}
+use Rattle.contents.specs.Contents.{one, subsOk, good20H, transferItemOk, good21H, userGood, good50H, contextGood, topGood, topOk, ids, itemsOk}
 
 -- an item of a type whose body is the name "1"
 abbrev named : ℕ → List ℕ
@@ -87,5 +87,5 @@ bad-answers =
     ∷ []
 
 pub judged : (all (itemsOk 0x20) good && (all (λ s. not (itemsOk 0x20 s)) bad && (all (itemsOk 0x21) good-answers && all (λ s. not (itemsOk 0x21 s)) bad-answers))) ≡ true
-unfolding itemsOk topOk subsOk one good20H transferOk good21H userGood good50H contextGood topGood ids step walkIn walk filled bodies types only goodBodies holds itemBytes nameOk be16 among distinct
+unfolding itemsOk topOk subsOk one good20H transferItemOk good21H userGood good50H contextGood topGood ids step walkIn walk filled bodies types only goodBodies holds itemBytes nameOk be16 among distinct
 judged = refl

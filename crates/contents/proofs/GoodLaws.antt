@@ -14,7 +14,7 @@ use Rattle.names.specs.Name.{nameOk}
 use Rattle.items.specs.Items.{Walk, walk, filled, bodies, first, goodBodies}
 use Rattle.items.proofs.HoldLaws.{first-good, held-filled, held-good}
 use Rattle.octets.specs.Octets.{odd}
-use Rattle.contents.specs.Contents.{topKnown, answerKnown, named, one, subsOk, good20H, transferOk, good21H, userGood, good50H, contextGood, topGood, topOk, ids, itemsOk}
+use Rattle.contents.specs.Contents.{topKnown, answerKnown, named, one, subsOk, good20H, transferItemOk, good21H, userGood, good50H, contextGood, topGood, topOk, ids, itemsOk}
 use Rattle.contents.proofs.Meaning.{Sub, subs-some, subs-hold, sub-counts, Top, top-some, top-holds, top-counts}
 
 -- ---- a good 20H
@@ -76,7 +76,7 @@ module _ (t : ℕ) (w : Walk) (h : one t w ≡ true) where
 -- ---- a good 21H
 module _ (b : List ℕ) (g : good21H b ≡ true) where
   parts-21 : (leb 4 (length b) && (odd (getD b 0 0) && (leb (getD b 2 0) 4 && (one 0x40 (walk (drop 4 b)) && goodBodies answerKnown named (walk (drop 4 b)))))) ≡ true
-  unfolding good21H transferOk
+  unfolding good21H transferItemOk
   parts-21 = g
 
   pub four-21 : 4 ≤ length b

@@ -14,7 +14,7 @@ use Rattle.items.specs.Items.{walk, itemEnd}
 use Rattle.items.proofs.WalkLaws.{Item, more, walking}
 use Rattle.items.proofs.ItemLaws.{bodyAt, bodies-more, bodies-skip, bodies-stop, bodies-over}
 use Rattle.contents.specs.Contents.{ids}
-use Rattle.contents.specs.Inner.{idAt}
+use Rattle.contents.specs.Private.Order.{idAt}
 
 -- ---- `id_at`
 module _ (s : List ℕ) (at e : ℕ) where

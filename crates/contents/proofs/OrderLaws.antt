@@ -13,15 +13,15 @@ use Rattle.laws.proofs.Booleans.{held}
 use Rattle.laws.proofs.Same.{same-equal}
 use Rattle.names.specs.Name.{nameOk}
 use Rattle.items.specs.Items.{Walk, filled, bodies, types, only, goodBodies, holds}
-use Rattle.items.specs.Inner.{Rule, keeps}
-use Rattle.items.proofs.RuleLaws.{after, keeps-is}
+use Rattle.items.specs.Private.Rules.{Rule, keeps}
+use Rattle.items.proofs.RuleLaws.{stateAfter, keeps-is}
 use Rattle.items.proofs.HoldLaws.{times, times-types, times-only, times-same}
 use Rattle.contents.specs.Contents.{topKnown, contextKnown, named, contextOrder, subsOk, good50H, contextGood, topGood, topOrder, topOk}
-use Rattle.contents.specs.Inner.{wrong, subGood, subNext, subRule, topNext, topRule}
+use Rattle.contents.specs.Private.Order.{wrong, subGood, subNext, subRule, topNext, topRule}
 
 -- ---- none leads on from an item out of order
-stuck : (R : Rule) → ((t : ℕ) → R .next 9 t ≡ 9) → (ts : List ℕ) → after R 9 ts ≡ 9
-unfolding after
+stuck : (R : Rule) → ((t : ℕ) → R .next 9 t ≡ 9) → (ts : List ℕ) → stateAfter R 9 ts ≡ 9
+unfolding stateAfter
 stuck R n [] = refl
 stuck R n (t ∷ ts) = rw (n t, stuck R n ts)
 
@@ -58,11 +58,11 @@ nine-sub t = go (eqb t 0x30) (eqb t 0x40)
     go false true = refl
     go false false = refl
 
-sub-9 : (ts : List ℕ) → eqb (after subRule 9 ts) 2 ≡ false
+sub-9 : (ts : List ℕ) → eqb (stateAfter subRule 9 ts) 2 ≡ false
 sub-9 ts = rw (stuck subRule nine-sub ts)
 
-sub-2 : {ts : List ℕ} → Subs ts → eqb (after subRule 2 ts) 2 ≡ sameBytes ts (replicate (times 0x40 ts) 0x40)
-unfolding after subNext times
+sub-2 : {ts : List ℕ} → Subs ts → eqb (stateAfter subRule 2 ts) 2 ≡ sameBytes ts (replicate (times 0x40 ts) 0x40)
+unfolding stateAfter subNext times
 sub-2 none = refl
 sub-2 (abstr {ts} s) = sub-9 ts ∙ go (times 0x40 ts)
   where
@@ -71,8 +71,8 @@ sub-2 (abstr {ts} s) = sub-9 ts ∙ go (times 0x40 ts)
     go (suc n) = refl
 sub-2 (transfer s) = sub-2 s
 
-sub-1 : {ts : List ℕ} → Subs ts → eqb (after subRule 1 ts) 2 ≡ (leb 1 (times 0x40 ts) && sameBytes ts (replicate (times 0x40 ts) 0x40))
-unfolding after subNext times
+sub-1 : {ts : List ℕ} → Subs ts → eqb (stateAfter subRule 1 ts) 2 ≡ (leb 1 (times 0x40 ts) && sameBytes ts (replicate (times 0x40 ts) 0x40))
+unfolding stateAfter subNext times
 sub-1 none = refl
 sub-1 (abstr {ts} s) = sub-9 ts ∙ go (times 0x40 ts)
   where
@@ -81,8 +81,8 @@ sub-1 (abstr {ts} s) = sub-9 ts ∙ go (times 0x40 ts)
     go (suc n) = sym (and-false (leb 1 (suc n)))
 sub-1 (transfer {ts} s) = rw (some (times 0x40 ts)) (sub-2 s)
 
-sub-0 : {ts : List ℕ} → Subs ts → eqb (after subRule 0 ts) 2 ≡ (leb 1 (times 0x40 ts) && sameBytes ts (contextOrder (times 0x40 ts)))
-unfolding after subNext times
+sub-0 : {ts : List ℕ} → Subs ts → eqb (stateAfter subRule 0 ts) 2 ≡ (leb 1 (times 0x40 ts) && sameBytes ts (contextOrder (times 0x40 ts)))
+unfolding stateAfter subNext times
 sub-0 none = refl
 sub-0 (abstr s) = sub-1 s
 sub-0 (transfer {ts} s) = sub-9 ts ∙ sym (and-false (leb 1 (suc (times 0x40 ts))))
@@ -141,7 +141,7 @@ nine-top k t = go (eqb t 0x10) (eqb t k) (eqb t 0x50)
     go false false true = refl
     go false false false = refl
 
-top-9 : (k : ℕ) (ts : List ℕ) → eqb (after (topRule k) 9 ts) 3 ≡ false
+top-9 : (k : ℕ) (ts : List ℕ) → eqb (stateAfter (topRule k) 9 ts) 3 ≡ false
 top-9 k ts = rw (stuck (topRule k) (nine-top k) ts)
 
 -- a type of its own
@@ -154,12 +154,12 @@ module _ (k : ℕ) (a : eqb 0x10 k ≡ false) (b : eqb k 0x10 ≡ false) (c : eq
   unfolding topNext
   next-50 st = rw c
 
-  top-3 : {ts : List ℕ} → Tops k ts → eqb (after (topRule k) 3 ts) 3 ≡ sameBytes ts []
-  unfolding after topNext
+  top-3 : {ts : List ℕ} → Tops k ts → eqb (stateAfter (topRule k) 3 ts) 3 ≡ sameBytes ts []
+  unfolding stateAfter topNext
   top-3 none = refl
   top-3 (application {ts} s) = top-9 k ts
-  top-3 (context {ts} s) = ap (λ (n : ℕ). eqb (after (topRule k) n ts) 3) (next-k 3) ∙ top-9 k ts
-  top-3 (user {ts} s) = ap (λ (n : ℕ). eqb (after (topRule k) n ts) 3) (next-50 3) ∙ top-9 k ts
+  top-3 (context {ts} s) = ap (λ (n : ℕ). eqb (stateAfter (topRule k) n ts) 3) (next-k 3) ∙ top-9 k ts
+  top-3 (user {ts} s) = ap (λ (n : ℕ). eqb (stateAfter (topRule k) n ts) 3) (next-50 3) ∙ top-9 k ts
 
   -- where the contexts end: at an item of another type, and at the 50H
   other : (ts : List ℕ) (n : ℕ) → sameBytes (0x10 ∷ ts) (replicate n k ++ (0x50 ∷ [])) ≡ false
@@ -178,15 +178,15 @@ module _ (k : ℕ) (a : eqb 0x10 k ≡ false) (b : eqb k 0x10 ≡ false) (c : eq
       go zero = refl
       go (suc n) = sym (early (t ∷ ts) n)
 
-  top-2 : {ts : List ℕ} → Tops k ts → eqb (after (topRule k) 2 ts) 3 ≡ sameBytes ts (replicate (times k ts) k ++ (0x50 ∷ []))
-  unfolding after topNext times
+  top-2 : {ts : List ℕ} → Tops k ts → eqb (stateAfter (topRule k) 2 ts) 3 ≡ sameBytes ts (replicate (times k ts) k ++ (0x50 ∷ []))
+  unfolding stateAfter topNext times
   top-2 none = refl
   top-2 (application {ts} s) = rw a (top-9 k ts ∙ sym (other ts (times k ts)))
   top-2 (context s) = rw (b, eq-eqb k k refl, eq-eqb k k refl) (top-2 s)
   top-2 (user {ts} s) = rw c (top-3 s ∙ ends ts)
 
-  top-1 : {ts : List ℕ} → Tops k ts → eqb (after (topRule k) 1 ts) 3 ≡ (leb 1 (times k ts) && sameBytes ts (replicate (times k ts) k ++ (0x50 ∷ [])))
-  unfolding after topNext times
+  top-1 : {ts : List ℕ} → Tops k ts → eqb (stateAfter (topRule k) 1 ts) 3 ≡ (leb 1 (times k ts) && sameBytes ts (replicate (times k ts) k ++ (0x50 ∷ [])))
+  unfolding stateAfter topNext times
   top-1 none = refl
   top-1 (application {ts} s) = rw (a, top-9 k ts, other ts (times k ts)) (sym (and-false (leb 1 (times k ts))))
   top-1 (context {ts} s) = rw (b, eq-eqb k k refl, eq-eqb k k refl, some (times k ts)) (top-2 s)
@@ -196,8 +196,8 @@ module _ (k : ℕ) (a : eqb 0x10 k ≡ false) (b : eqb k 0x10 ≡ false) (c : eq
       go zero = refl
       go (suc n) = rw (early ts n) (sym (and-false (leb 1 (suc n))))
 
-  top-0 : {ts : List ℕ} → Tops k ts → eqb (after (topRule k) 0 ts) 3 ≡ (leb 1 (times k ts) && sameBytes ts (topOrder k (times k ts)))
-  unfolding after topNext times
+  top-0 : {ts : List ℕ} → Tops k ts → eqb (stateAfter (topRule k) 0 ts) 3 ≡ (leb 1 (times k ts) && sameBytes ts (topOrder k (times k ts)))
+  unfolding stateAfter topNext times
   top-0 none = refl
   top-0 (application s) = rw a (top-1 s)
   top-0 (context {ts} s) = rw (b, eq-eqb k k refl, top-9 k ts) (sym (and-false (leb 1 (suc (times k ts)))))
@@ -222,37 +222,37 @@ unfolding times
 few-50 ts = few 0x50 ts (λ e. let n = times-same 0x50 (times 0x50 ts) (0x50 ∷ []) in omega arith)
 
 -- from 1 no 10H leads on
-tens-1 : {ts : List ℕ} → Tops 0x10 ts → eqb (after (topRule 0x10) 1 ts) 3 ≡ false
-unfolding after topNext
+tens-1 : {ts : List ℕ} → Tops 0x10 ts → eqb (stateAfter (topRule 0x10) 1 ts) 3 ≡ false
+unfolding stateAfter topNext
 tens-1 none = refl
 tens-1 (application {ts} s) = top-9 0x10 ts
 tens-1 (context {ts} s) = top-9 0x10 ts
 tens-1 (user {ts} s) = top-9 0x10 ts
 
-tens : {ts : List ℕ} → Tops 0x10 ts → eqb (after (topRule 0x10) 0 ts) 3 ≡ false
-unfolding after topNext
+tens : {ts : List ℕ} → Tops 0x10 ts → eqb (stateAfter (topRule 0x10) 0 ts) 3 ≡ false
+unfolding stateAfter topNext
 tens none = refl
 tens (application s) = tens-1 s
 tens (context s) = tens-1 s
 tens (user {ts} s) = top-9 0x10 ts
 
 -- no 50H leads to 3
-fifties-2 : {ts : List ℕ} → Tops 0x50 ts → eqb (after (topRule 0x50) 2 ts) 3 ≡ false
-unfolding after topNext
+fifties-2 : {ts : List ℕ} → Tops 0x50 ts → eqb (stateAfter (topRule 0x50) 2 ts) 3 ≡ false
+unfolding stateAfter topNext
 fifties-2 none = refl
 fifties-2 (application {ts} s) = top-9 0x50 ts
 fifties-2 (context s) = fifties-2 s
 fifties-2 (user s) = fifties-2 s
 
-fifties-1 : {ts : List ℕ} → Tops 0x50 ts → eqb (after (topRule 0x50) 1 ts) 3 ≡ false
-unfolding after topNext
+fifties-1 : {ts : List ℕ} → Tops 0x50 ts → eqb (stateAfter (topRule 0x50) 1 ts) 3 ≡ false
+unfolding stateAfter topNext
 fifties-1 none = refl
 fifties-1 (application {ts} s) = top-9 0x50 ts
 fifties-1 (context s) = fifties-2 s
 fifties-1 (user s) = fifties-2 s
 
-fifties : {ts : List ℕ} → Tops 0x50 ts → eqb (after (topRule 0x50) 0 ts) 3 ≡ false
-unfolding after topNext
+fifties : {ts : List ℕ} → Tops 0x50 ts → eqb (stateAfter (topRule 0x50) 0 ts) 3 ≡ false
+unfolding stateAfter topNext
 fifties none = refl
 fifties (application s) = fifties-1 s
 fifties (context {ts} s) = top-9 0x50 ts
@@ -262,11 +262,11 @@ fifties (user {ts} s) = top-9 0x50 ts
 apart : (k t : ℕ) → eqb k t ≡ false → eqb t k ≡ false
 apart k t h = ne-eqb t k (λ e. eqb-false k t h (sym e))
 
-top-order : (k : ℕ) (ts : List ℕ) → Tops k ts → eqb (after (topRule k) 0 ts) 3 ≡ (leb 1 (times k ts) && sameBytes ts (topOrder k (times k ts)))
+top-order : (k : ℕ) (ts : List ℕ) → Tops k ts → eqb (stateAfter (topRule k) 0 ts) 3 ≡ (leb 1 (times k ts) && sameBytes ts (topOrder k (times k ts)))
 top-order k ts = go (eqb k 0x10) refl (eqb k 0x50) refl
   where
     go : (p : Bool) → eqb k 0x10 ≡ p → (q : Bool) → eqb k 0x50 ≡ q
-        → Tops k ts → eqb (after (topRule k) 0 ts) 3 ≡ (leb 1 (times k ts) && sameBytes ts (topOrder k (times k ts)))
+        → Tops k ts → eqb (stateAfter (topRule k) 0 ts) 3 ≡ (leb 1 (times k ts) && sameBytes ts (topOrder k (times k ts)))
     go true e q f = rw (eqb-true k 0x10 e) λ s. tens s ∙ rw (few-10 ts) (sym (and-false (leb 1 (times 0x10 ts))))
     go false e true f = rw (eqb-true k 0x50 f) λ s. fifties s ∙ rw (few-50 ts) (sym (and-false (leb 1 (times 0x50 ts))))
     go false e false f = top-0 k (apart k 0x10 e) e (apart k 0x50 f)

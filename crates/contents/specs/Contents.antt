@@ -51,11 +51,11 @@ good20H b = leb 4 (length b) && (odd (getD b 0 0) && subsOk (walk (drop 4 b)))
 
 -- ---- "21H: ID odd, reserved, result 0 to 4, reserved, exactly one 40H with a name (for each result)."
 -- what follows the four bytes, by the result
-unfoldable pub transferOk : ℕ → Walk → Bool
-transferOk result w = one 0x40 w && goodBodies answerKnown named w
+unfoldable pub transferItemOk : ℕ → Walk → Bool
+transferItemOk result w = one 0x40 w && goodBodies answerKnown named w
 
 unfoldable pub good21H : List ℕ → Bool
-good21H b = leb 4 (length b) && (odd (getD b 0 0) && (leb (getD b 2 0) 4 && transferOk (getD b 2 0) (walk (drop 4 b))))
+good21H b = leb 4 (length b) && (odd (getD b 0 0) && (leb (getD b 2 0) 4 && transferItemOk (getD b 2 0) (walk (drop 4 b))))
 
 -- ---- "50H: exactly one 51H of length 4, the maximum length .. Sub-item order is not tested."
 unfoldable pub userGood : ℕ → List ℕ → Bool

@@ -1,8 +1,8 @@
 // A context: 20H in an RQ, 21H in an AC.
 ghost use mathlib.Core.Path.{_≡_};
 ghost use Rattle.items.specs.Items.{walk};
-ghost use Rattle.contents.specs.Contents.{one, subsOk, good20H, transferOk, good21H, contextGood};
-ghost use Rattle.contents.specs.Inner.{subGood, subNext};
+ghost use Rattle.contents.specs.Contents.{one, subsOk, good20H, transferItemOk, good21H, contextGood};
+ghost use Rattle.contents.specs.Private.Order.{subGood, subNext};
 
 // Whether a sub-item of a 20H may have this body.
 fn sub_good(t: u8, b: &[u8]) -> bool
@@ -84,8 +84,8 @@ pub(crate) fn one_of(t: u8, s: &[u8]) -> bool
 }
 
 // Whether the sub-items of a 21H with this result are right.
-fn transfer_ok(result: u8, s: &[u8]) -> bool
-    ensures { λ r. ⌜ r ≡ transferOk result (walk (now (s .entry))) ⌝ }
+fn transfer_item_ok(result: u8, s: &[u8]) -> bool
+    ensures { λ r. ⌜ r ≡ transferItemOk result (walk (now (s .entry))) ⌝ }
 {
     if !one_of(0x40, s) {
         return false;
@@ -105,7 +105,7 @@ fn answered_ok(b: &[u8]) -> bool
     if b[2] > 4 {
         return false;
     }
-    transfer_ok(b[2], &b[4..])
+    transfer_item_ok(b[2], &b[4..])
 }
 
 // Whether a context of type k may have this body.

@@ -3,7 +3,7 @@ ghost use mathlib.Core.Path.{_≡_};
 ghost use Rattle.laws.specs.Lists.{distinct};
 ghost use Rattle.items.specs.Items.{walk};
 ghost use Rattle.contents.specs.Contents.{ids};
-ghost use Rattle.contents.specs.Inner.{idAt};
+ghost use Rattle.contents.specs.Private.Order.{idAt};
 
 // The first byte of the body of the item that stands at a place and ends at e; 0 where that body is empty.
 fn id_at(s: &[u8], at: usize, e: usize) -> u8

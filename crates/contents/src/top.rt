@@ -2,7 +2,7 @@
 ghost use mathlib.Core.Path.{_≡_};
 ghost use Rattle.items.specs.Items.{walk};
 ghost use Rattle.contents.specs.Contents.{topGood, topOk, itemsOk};
-ghost use Rattle.contents.specs.Inner.{topNext};
+ghost use Rattle.contents.specs.Private.Order.{topNext};
 use crate::context::context_good;
 use crate::ids::ids_differ;
 use crate::user::user_ok;

@@ -7,7 +7,7 @@ use denote.Ref.{now}
 use Rattle.laws.proofs.Agree.{agree, AgreesLent}
 use Rattle.reading.specs.declared.associate.Associate.{Associate}
 use Rattle.feohanna.specs.Numbers.{Handed, handed, numbers, told}
-use Rattle.feohanna.specs.Fields.{associate, reject, abort, pdv}
+use Rattle.feohanna.specs.Fields.{associate, reject, abort, pdvFields}
 use Rattle.feohanna.proofs.calls.feo_raw_receive as receive
 use Rattle.feohanna.proofs.calls.feo_raw_event as event
 use Rattle.feohanna.proofs.calls.feo_raw_confirm as confirm
@@ -74,8 +74,8 @@ pub feo-raw-read-abort-agrees : AgreesLent 3 read-abort.Kinds.ps read-abort.Kind
 feo-raw-read-abort-agrees κs args a b x y p q = (ap (λ f. f .refusal) (agree p q), ap (λ f. abort 0 (f .source) (f .reason)) (agree p q))
 
 pub feo-raw-read-data-agrees : AgreesLent 5 read-data.Kinds.ps read-data.Kinds.r read-data.Reads.Post
-    (λ κs x. pdv 0 (now (x .1 .1 .0)) (now (x .1 .1 .1 .0)) (now (x .1 .1 .1 .1 .0)) (now (x .1 .1 .1 .1 .1 .0)))
-feo-raw-read-data-agrees κs args a b x y p q = (ap (λ f. f .refusal) (agree p q), ap (λ f. pdv 0 (f .id) (f .control) (f .start) (f .len)) (agree p q))
+    (λ κs x. pdvFields 0 (now (x .1 .1 .0)) (now (x .1 .1 .1 .0)) (now (x .1 .1 .1 .1 .0)) (now (x .1 .1 .1 .1 .1 .0)))
+feo-raw-read-data-agrees κs args a b x y p q = (ap (λ f. f .refusal) (agree p q), ap (λ f. pdvFields 0 (f .id) (f .control) (f .start) (f .len)) (agree p q))
 
 pub feo-raw-title-known-agrees : AgreesLent 3 title-known.Kinds.ps title-known.Kinds.r title-known.Reads.Post
     (λ κs x. now (x .1 .1 .0))

@@ -11,7 +11,7 @@ use Rattle.association.specs.declared.Told.{Told}
 use Rattle.association.specs.declared.Answer.{Answer}
 use Rattle.association.specs.Calls.{Call, call}
 use Rattle.feohanna.specs.Numbers.{Numbers, numbers, isSet, byteOf, assocOf, numbersOf, storedOf, handed, handOut}
-use Rattle.feohanna.specs.Steps.{Stored}
+use Rattle.feohanna.specs.Private.Stored.{Stored}
 
 pub assoc-made : (s g d t q p : ℕ) (d′ t′ q′ : Bool) → d′ ≡ isSet d → t′ ≡ isSet t → q′ ≡ isSet q
     → record { state = s; gathered = g; deaf = d′; artim = t′; requestor = q′; «peer_max» = p } ≡ assocOf (numbers s g d t q p)

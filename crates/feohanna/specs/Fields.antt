@@ -15,5 +15,5 @@ reject refusal result source reason = record { refusal = refusal; result = resul
 abbrev pub abort : ℕ → ℕ → ℕ → AbortRead
 abort refusal source reason = record { refusal = refusal; source = source; reason = reason }
 
-abbrev pub pdv : ℕ → ℕ → ℕ → ℕ → ℕ → DataRead
-pdv refusal id control start len = record { refusal = refusal; id = id; control = control; start = start; len = len }
+abbrev pub pdvFields : ℕ → ℕ → ℕ → ℕ → ℕ → DataRead
+pdvFields refusal id control start len = record { refusal = refusal; id = id; control = control; start = start; len = len }

@@ -1,3 +1,3 @@
 pub mod Numbers
 pub mod Fields
-pub mod Steps
+pub mod Private

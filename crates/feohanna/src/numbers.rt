@@ -4,7 +4,7 @@ use association::Assoc;
 ghost use mathlib.Core.Path.{_≡_};
 ghost use Rattle.association.specs.Record.{idle};
 ghost use Rattle.feohanna.specs.Numbers.{numbers, isSet, byteOf, assocOf, numbersOf, told};
-ghost use Rattle.feohanna.specs.Steps.{Stored};
+ghost use Rattle.feohanna.specs.Private.Stored.{Stored};
 
 fn is_set(mark: u8) -> bool
     ensures { λ r. ⌜ r ≡ isSet mark ⌝ }

@@ -1,9 +1,9 @@
 // The fields of each kind of PDU. Where a read is refused the numbers handed out are 0.
 ghost use mathlib.Core.Path.{_≡_};
 ghost use Rattle.reading.specs.Associate.{Read};
-ghost use Rattle.reading.specs.Values.{rejectOf, abortOf};
+ghost use Rattle.reading.specs.Values.{rejectIn, abortIn};
 ghost use Rattle.reading.specs.Data.{dataOf};
-ghost use Rattle.feohanna.specs.Fields.{associate, reject, abort, pdv};
+ghost use Rattle.feohanna.specs.Fields.{associate, reject, abort, pdvFields};
 
 #[no_mangle]
 pub extern "C" fn feo_raw_read_request(
@@ -56,7 +56,7 @@ pub extern "C" fn feo_raw_read_reject(
     source: &mut u8,
     reason: &mut u8,
 ) -> u8
-    ensures { λ r. ⌜ reject r (now (result .exit)) (now (source .exit)) (now (reason .exit)) ≡ rejectOf (now (pdu .entry)) ⌝ }
+    ensures { λ r. ⌜ reject r (now (result .exit)) (now (source .exit)) (now (reason .exit)) ≡ rejectIn (now (pdu .entry)) ⌝ }
 {
     let f = reading::read_reject(pdu);
     *result = f.result;
@@ -67,7 +67,7 @@ pub extern "C" fn feo_raw_read_reject(
 
 #[no_mangle]
 pub extern "C" fn feo_raw_read_abort(pdu: &[u8], source: &mut u8, reason: &mut u8) -> u8
-    ensures { λ r. ⌜ abort r (now (source .exit)) (now (reason .exit)) ≡ abortOf (now (pdu .entry)) ⌝ }
+    ensures { λ r. ⌜ abort r (now (source .exit)) (now (reason .exit)) ≡ abortIn (now (pdu .entry)) ⌝ }
 {
     let f = reading::read_abort(pdu);
     *source = f.source;
@@ -85,7 +85,7 @@ pub extern "C" fn feo_raw_read_data(
     start: &mut usize,
     length: &mut usize,
 ) -> u8
-    ensures { λ r. ⌜ pdv r (now (id .exit)) (now (control .exit)) (now (start .exit)) (now (length .exit)) ≡ dataOf (now (pdu .entry)) number ⌝ }
+    ensures { λ r. ⌜ pdvFields r (now (id .exit)) (now (control .exit)) (now (start .exit)) (now (length .exit)) ≡ dataOf (now (pdu .entry)) number ⌝ }
 {
     let f = reading::read_data(pdu, number);
     *id = f.id;

@@ -10,13 +10,13 @@ use lib.ListN.{length, take, drop, length-append}
 use lib.Seq.{length-take-le, drop-length, take-length}
 use Rattle.octets.specs.Put.{put, front}
 use Rattle.octets.proofs.PutLaws.{put-length}
-use Rattle.framing.specs.Runs.{Ran, stop, after}
+use Rattle.framing.specs.Runs.{Ran, stop, following}
 use Rattle.framing.specs.Framing.{Frame, frame, Frame.short, Frame.long, Frame.whole}
 use Rattle.framing.specs.Host.{Entry, One, Item.event}
 use Rattle.framing.specs.Reference as ref
 use Rattle.framing.specs.Reference.{Machine, Reaction}
 use Rattle.framing.specs.Engine as eng
-use Rattle.framing.specs.Engine.{Lent, Answer}
+use Rattle.framing.specs.Engine.{EngineState, EngineAnswer}
 use Rattle.framing.proofs.Framing.{Begins, Begins.no-event, Begins.at-six, Begins.at-end, begins, frame-nil}
 use Rattle.framing.proofs.Buffers.{inside, behind, before, take-shown, take-none, take-put, take-front, front-length}
 use Rattle.framing.proofs.Ready.{Kept, Laws, Ready}
@@ -26,20 +26,20 @@ module _ (M : Machine) (L : Laws M) where
   open Machine M using (R, E, A, limit, drops, onPdu, onLong, onLocal)
 
   -- WHAT A CALL DOES with a piece p, where t is still to come: of a piece that is not empty it uses a byte or more, and no byte that is not there
-  pub record Called (l : Lent M) (p t : List ℕ) (a : Answer M) : Type 0 where
+  pub record Called (l : EngineState M) (p t : List ℕ) (a : EngineAnswer M) : Type 0 where
     pub at-most : a .used ≤ length p
     pub at-least : 0 < length p → 0 < a .used
     pub ready : Ready M L (a .next)
     pub same : ref.framed M (l .state) ((take (l .count) (l .gather) ++ p) ++ t)
-        ≡ after (eng.seen M a) (ref.framed M (a .next .state) (take (a .next .count) (a .next .gather) ++ (drop (a .used) p ++ t)))
+        ≡ following (eng.seen M a) (ref.framed M (a .next .state) (take (a .next .count) (a .next .gather) ++ (drop (a .used) p ++ t)))
 
   -- an event at n bytes, the count gathered among them
-  acted : (l : Lent M) (p t : List ℕ) → Ready M L l
+  acted : (l : EngineState M) (p t : List ℕ) → Ready M L l
       → (n : ℕ) → length (take (l .count) (l .gather)) < n → n ≤ length (take (l .count) (l .gather) ++ p) → n ≤ 6 + limit
       → (x : Reaction R A) → Kept M (L .Sound) x
       → (m : ℕ) (q : List ℕ) → take m (put (l .gather) (l .count) (take (n - l .count) p)) ≡ q
       → ref.framed M (l .state) ((take (l .count) (l .gather) ++ p) ++ t)
-      ≡ after (ref.entry M x q ∷ []) (ref.framed M (x .next) (drop n ((take (l .count) (l .gather) ++ p) ++ t)))
+      ≡ following (ref.entry M x q ∷ []) (ref.framed M (x .next) (drop n ((take (l .count) (l .gather) ++ p) ++ t)))
       → Called l p t (eng.acts M (n - l .count) x m 0 (eng.gathering M l (take (n - l .count) p)))
   acted l p t ok n low high fits x kept m q eq h =
       let lg : length (take (l .count) (l .gather)) ≡ l .count = length-take-le (l .count) (l .gather) (ok .within) in
@@ -70,7 +70,7 @@ module _ (M : Machine) (L : Laws M) where
             );
       }
 
-  called-by : (l : Lent M) (p t : List ℕ) → Ready M L l → (b : Bool) → drops (l .state) ≡ b
+  called-by : (l : EngineState M) (p t : List ℕ) → Ready M L l → (b : Bool) → drops (l .state) ≡ b
       → (f : Frame) → frame limit (take (l .count) (l .gather) ++ p) ≡ f → Begins limit (take (l .count) (l .gather)) p f
       → Called l p t (eng.receiveBy M b f l p)
   called-by l p t ok true eb f ef v =
@@ -114,29 +114,29 @@ module _ (M : Machine) (L : Laws M) where
       (framed-step M (l .state) _ ∙ rw (eb, g t, pdu))
 
   -- ONE CALL
-  pub called : (l : Lent M) (p t : List ℕ) → Ready M L l → Called l p t (eng.receive M l p)
+  pub called : (l : EngineState M) (p t : List ℕ) → Ready M L l → Called l p t (eng.receive M l p)
   unfolding eng.receive
   called l p t ok =
       called-by l p t ok (drops (l .state)) refl (frame limit (take (l .count) (l .gather) ++ p)) refl
       (begins limit (take (l .count) (l .gather)) p (ok .quiet))
 
   -- what is gathered brings no event
-  pub at-rest : (l : Lent M) → Ready M L l → ref.framed M (l .state) (take (l .count) (l .gather)) ≡ stop (eng.boxOf M l)
+  pub at-rest : (l : EngineState M) → Ready M L l → ref.framed M (l .state) (take (l .count) (l .gather)) ≡ stop (eng.engineBox M l)
   at-rest l ok = framed-short M (l .state) (take (l .count) (l .gather)) (ok .quiet) ∙ by (drops (l .state)) refl
     where
-      by : (b : Bool) → drops (l .state) ≡ b → stop (ref.box M (l .state) (cond b [] (take (l .count) (l .gather)))) ≡ stop {T = Entry A} (eng.boxOf M l)
+      by : (b : Bool) → drops (l .state) ≡ b → stop (ref.box M (l .state) (cond b [] (take (l .count) (l .gather)))) ≡ stop {T = Entry A} (eng.engineBox M l)
       by true e = rw (ok .dropped e)
       by false e = refl
 
   -- ---- a local event
 
   -- the engine came to where the reference came, and is ready
-  pub record Done (x : Ran (Entry A) (Lent M)) (y : Ran (Entry A) (ref.Box M)) : Type 0 where
+  pub record Done (x : Ran (Entry A) (EngineState M)) (y : Ran (Entry A) (ref.Box M)) : Type 0 where
     pub ready : Ready M L (x .end)
-    pub same : eng.boxed M x ≡ y
+    pub same : eng.engineBoxed M x ≡ y
 
-  told-by : (l : Lent M) (o : Option (Reaction R A)) → Ready M L l → ((x : Reaction R A) → o ≡ some x → Kept M (L .Sound) x)
-      → Done (record { trace = eng.seen M (eng.localBy M o l); end = eng.localBy M o l .next }) (ref.localBy M o (eng.boxOf M l))
+  told-by : (l : EngineState M) (o : Option (Reaction R A)) → Ready M L l → ((x : Reaction R A) → o ≡ some x → Kept M (L .Sound) x)
+      → Done (record { trace = eng.seen M (eng.engineLocal M o l); end = eng.engineLocal M o l .next }) (ref.localBy M o (eng.engineBox M l))
   told-by l none ok kept = record { ready = ok; same = refl }
   told-by l (some x) ok kept =
       record {
@@ -165,6 +165,6 @@ module _ (M : Machine) (L : Laws M) where
           }
 
   -- A LOCAL EVENT
-  pub told : (l : Lent M) (c : One) (e : E) → Ready M L l → Done (eng.calls M .onEvent l c e) (ref.refItem M (event c e) (eng.boxOf M l))
+  pub told : (l : EngineState M) (c : One) (e : E) → Ready M L l → Done (eng.engineCalls M .onEvent l c e) (ref.refItem M (event c e) (eng.engineBox M l))
   unfolding eng.local
   told l c e ok = told-by l (onLocal (l .state) e) ok (λ x q. L .local (l .state) e x (ok .sound) q)

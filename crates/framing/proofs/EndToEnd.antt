@@ -10,7 +10,7 @@ use Rattle.framing.specs.Framing.{frame, split, Framed, Brought, Frame.w
 use Rattle.framing.specs.Host.{Entry}
 use Rattle.framing.specs.Reference.{Machine}
 use Rattle.framing.specs.Engine as eng
-use Rattle.framing.specs.Steps as steps
+use Rattle.framing.specs.Taken as steps
 use Rattle.framing.specs.Slots.{ownOf}
 use Rattle.framing.specs.Line as line
 use Rattle.framing.specs.Line.{Side, other, sameSide, gotIn, Line, Move}
@@ -37,24 +37,24 @@ module _ (M : Machine) where
   wholes (silent e s) = wholes s
   wholes (speaks e s) = sp.more e (wholes s)
 
-  stream : {l : List (Entry A)} {ps : List (List ℕ)} → Sends l ps → line.sentIn (eng.calls M) bytes l ≡ joined ps
+  stream : {l : List (Entry A)} {ps : List (List ℕ)} → Sends l ps → line.sentIn (eng.engineCalls M) bytes l ≡ joined ps
   stream nothing = refl
   stream (silent e s) = rw (e, stream s)
   stream (speaks e s) = rw (stream s)
 
   -- from a line with nothing on the way to end k, and nothing gathered there
-  pub end-to-end : (k : Side) (ms : List (Move (eng.calls M) bytes)) (w : Line (eng.calls M) bytes) → w .way k ≡ [] → w .ends k .count ≡ 0
-      → (ps : List (List ℕ)) → Sends (ownOf sameSide (other k) (line.talk (eng.calls M) bytes ms w .trace)) ps
-      → Beginning (came M (steps.within M (line.givenAt (eng.calls M) bytes k ms w) (eng.boxOf M (w .ends k)))) (map once.pdu ps)
+  pub end-to-end : (k : Side) (ms : List (Move (eng.engineCalls M) bytes)) (w : Line (eng.engineCalls M) bytes) → w .way k ≡ [] → w .ends k .count ≡ 0
+      → (ps : List (List ℕ)) → Sends (ownOf sameSide (other k) (line.talk (eng.engineCalls M) bytes ms w .trace)) ps
+      → Beginning (came M (steps.within M (line.givenAt (eng.engineCalls M) bytes k ms w) (eng.engineBox M (w .ends k)))) (map once.pdu ps)
   end-to-end k ms w empty none ps s =
-      let is = line.givenAt (eng.calls M) bytes k ms w in
-      let l : List Brought = came M (steps.within M is (eng.boxOf M (w .ends k))) in
+      let is = line.givenAt (eng.engineCalls M) bytes k ms w in
+      let l : List Brought = came M (steps.within M is (eng.engineBox M (w .ends k))) in
       let got : List ℕ = gotIn is in
-      let way : List ℕ = line.talk (eng.calls M) bytes ms w .end .way k in
+      let way : List ℕ = line.talk (eng.engineCalls M) bytes ms w .end .way k in
       let start : take (w .ends k .count) (w .ends k .gather) ++ got ≡ got = rw none in
       let b : Beginning l (split limit got .events) =
-      subst (λ (t : List ℕ). Beginning l (split limit t .events)) start (begun M is (eng.boxOf M (w .ends k))) in
-      let all : got ++ way ≡ joined ps = delays (eng.calls M) bytes k ms w ∙ rw empty (stream s) in
+      subst (λ (t : List ℕ). Beginning l (split limit t .events)) start (begun M is (eng.engineBox M (w .ends k))) in
+      let all : got ++ way ≡ joined ps = delays (eng.engineCalls M) bytes k ms w ∙ rw empty (stream s) in
       let q : split limit got .events ++ split limit (split limit got .rest ++ way) .events ≡ map once.pdu ps =
       ap (λ (x : Framed). x .events) (sym (split-append limit got way) ∙ ap (split limit) all ∙ split-wholes limit (wholes s)) in
       subst (Beginning l) q (longer l (split limit got .events) (split limit (split limit got .rest ++ way) .events) b)

@@ -6,7 +6,7 @@ use mathlib.Core.List.{List, [], _∷_, _++_, append-assoc}
 use native.Mathlib.Omega.{arith}
 use lib.ListN.{length, drop, length-drop}
 use Rattle.laws.specs.Lists.{joined}
-use Rattle.framing.specs.Runs.{Ran, stop, after, runs}
+use Rattle.framing.specs.Runs.{Ran, stop, following, runs}
 use Rattle.framing.specs.Host as host
 use Rattle.framing.specs.Host.{Calls, Item, feedBy, feed, Hosted, HostedScript, Item.event, Item.run}
 use Rattle.framing.proofs.Rounds.{without-fuel}
@@ -27,7 +27,7 @@ module _ {C E T : Type 0} (D : Calls C E T) (Inv : D .S → Type 0) (adv : Advan
   shorter c go to [] same s i = refl
   shorter c go to (b ∷ p) same s i =
       let a = receive s c (b ∷ p) in
-      ap (after (a .seen))
+      ap (following (a .seen))
       (same (drop (a .used) (b ∷ p)) (simp length-drop (omega (arith, adv .uses s c (b ∷ p) i (omega arith)))) (a .next) (adv .hears s c (b ∷ p) i))
 
   -- WHAT `feed` IS: nothing to do, or one call, and then the same with what it did not use
@@ -42,7 +42,7 @@ module _ {C E T : Type 0} (D : Calls C E T) (Inv : D .S → Type 0) (adv : Advan
   -- y is what came of offering p until all of it was used: a host that goes on with t goes on from there
   record Fed (c : C) (p : List ℕ) (s : S) (y : Ran T S) : Type 0 where
     inv : Inv (y .end)
-    host : (t : List ℕ) (x : Ran T S) → Hosted D c (y .end) t x → Hosted D c s (p ++ t) (after (y .trace) x)
+    host : (t : List ℕ) (x : Ran T S) → Hosted D c (y .end) t x → Hosted D c s (p ++ t) (following (y .trace) x)
 
   fed-nothing : (c : C) (s : S) → Inv s → Fed c [] s (feed D c [] s)
   fed-nothing c s i = subst (Fed c [] s) (sym (feed-step c [] s i)) (record { inv = i; host = λ t x w. w })

@@ -10,7 +10,7 @@ use lib.ListN.{length, take}
 use Rattle.framing.specs.Framing.{frame, Frame.short}
 use Rattle.framing.specs.Reference.{Machine, Reaction}
 use Rattle.framing.specs.Engine as eng
-use Rattle.framing.specs.Engine.{Lent}
+use Rattle.framing.specs.Engine.{EngineState}
 use Rattle.framing.proofs.Framing.{frame-nil}
 
 module _ (M : Machine) where
@@ -33,7 +33,7 @@ module _ (M : Machine) (L : Laws M) where
   open Machine M using (R, E, A, limit, drops, onPdu, onLong, onLocal)
 
   -- What holds between calls, from a fresh association on: refusals 6, 3 and 2 never come. Both buffers have room for a PDU of the limit.
-  pub record Ready (l : Lent M) : Type 0 where
+  pub record Ready (l : EngineState M) : Type 0 where
     pub sound : L .Sound (l .state)
     pub room : 6 + limit ≤ length (l .gather)
     pub within : l .count ≤ length (l .gather)
@@ -41,5 +41,5 @@ module _ (M : Machine) (L : Laws M) where
     pub dropped : drops (l .state) ≡ true → l .count ≡ 0
     pub output : 6 + limit ≤ length (l .out)
 
-  pub ready-fresh : (r : R) (g o : List ℕ) → L .Sound r → 6 + limit ≤ length g → 6 + limit ≤ length o → Ready (eng.fresh M r g o)
+  pub ready-fresh : (r : R) (g o : List ℕ) → L .Sound r → 6 + limit ≤ length g → 6 + limit ≤ length o → Ready (eng.engineFresh M r g o)
   ready-fresh r g o s hg ho = record { sound = s; room = hg; within = omega arith; quiet = frame-nil limit; dropped = λ _. refl; output = ho }

@@ -11,10 +11,10 @@ use Rattle.octets.specs.Put.{put}
 use Rattle.framing.specs.Framing.{Frame, frame, Frame.short, Frame.long, Frame.whole}
 use Rattle.framing.specs.Reference.{Machine}
 use Rattle.framing.specs.Engine as eng
-use Rattle.framing.specs.Engine.{Lent}
+use Rattle.framing.specs.Engine.{EngineState}
 use Rattle.framing.proofs.Framing.{Begins, Begins.no-event, Begins.at-six, Begins.at-end, begins}
 
-module _ (M : Machine) (l : Lent M) (p : List ℕ) where
+module _ (M : Machine) (l : EngineState M) (p : List ℕ) where
   open Machine M using (limit, drops, onPdu, onLong)
 
   pub receive-dropped : drops (l .state) ≡ true → eng.receive M l p ≡ eng.quiet M (length p) l

@@ -5,7 +5,7 @@ use mathlib.Core.Path.{_≡_, refl, ap, _∙_}
 use mathlib.Core.Bool.{Bool, true, false, cond}
 use mathlib.Core.List.{List, [], _∷_, _++_}
 use lib.ListN.{take, drop}
-use Rattle.framing.specs.Runs.{Ran, stop, after, runs}
+use Rattle.framing.specs.Runs.{Ran, stop, following, runs}
 use Rattle.framing.specs.Framing.{Frame, frame, Framed, Brought, splitBy, split, Frame.short, Frame.long, Frame.whole}
 use Rattle.framing.specs.Host.{Entry}
 use Rattle.framing.specs.Reference as ref
@@ -32,8 +32,8 @@ module _ (M : Machine) where
   abbrev firstBy : Bool → Frame → R → List ℕ → Ran (Entry A) (ref.Box M)
   firstBy true f r s = stop (ref.box M r [])
   firstBy false short r s = stop (ref.box M r s)
-  firstBy false long r s = after (ref.entry M (onLong r) [] ∷ []) (ref.framed M (onLong r .next) (drop 6 s))
-  firstBy false (whole n) r s = after (ref.entry M (onPdu r (take n s)) (take n s) ∷ []) (ref.framed M (onPdu r (take n s) .next) (drop n s))
+  firstBy false long r s = following (ref.entry M (onLong r) [] ∷ []) (ref.framed M (onLong r .next) (drop 6 s))
+  firstBy false (whole n) r s = following (ref.entry M (onPdu r (take n s)) (take n s) ∷ []) (ref.framed M (onPdu r (take n s) .next) (drop n s))
 
   abbrev played : Framed → R → Ran (Entry A) (ref.Box M)
   played x r = let y = runs (ref.takes M) (x .events) r in record { trace = y .trace; end = ref.holding M (y .end) (x .rest) }
@@ -61,7 +61,7 @@ module _ (M : Machine) where
 
   -- the reference goes on from where it stood
   abbrev pub onward : Ran (Entry A) (ref.Box M) → List ℕ → Ran (Entry A) (ref.Box M)
-  onward x t = after (x .trace) (ref.framed M (x .end .state) (x .end .got ++ t))
+  onward x t = following (x .trace) (ref.framed M (x .end .state) (x .end .got ++ t))
 
   pub framed-append : (r : R) (s t : List ℕ) → ref.framed M r (s ++ t) ≡ onward (ref.framed M r s) t
   unfolding ref.framed
@@ -71,7 +71,7 @@ module _ (M : Machine) where
       let y : Ran (Entry A) R = runs (ref.takes M) (x .events) r in
       ap (λ (z : Framed). played z r) (split-append limit s t)
       ∙ ap (λ (z : Ran (Entry A) R). record { trace = z .trace; end = ref.holding M (z .end) (w .rest) }) (runs-append (ref.takes M) (x .events) (w .events) r)
-      ∙ ap (after (y .trace)) (by (y .end) (x .rest) (drops (y .end)) refl)
+      ∙ ap (following (y .trace)) (by (y .end) (x .rest) (drops (y .end)) refl)
     where
       by : (q : R) (g : List ℕ) (b : Bool) → drops q ≡ b → played (split limit (g ++ t)) q ≡ played (split limit (cond b [] g ++ t)) q
       by q g true e = rw (takes-none (split limit (g ++ t) .events) q e, takes-none (split limit t .events) q e) (rw e)

@@ -8,7 +8,7 @@ use native.Mathlib.Nat.{min-eq-right}
 use native.Mathlib.Omega.{arith}
 use lib.ListN.{length, drop, length-append}
 use lib.Seq.{drop-length}
-use Rattle.framing.specs.Runs.{Ran, stop, after, runs}
+use Rattle.framing.specs.Runs.{Ran, stop, following, runs}
 use Rattle.framing.specs.Rounds.{rounds, byLength}
 use Rattle.framing.specs.Host as host
 use Rattle.framing.specs.Host.{Calls, Item, Item.run, feedBy, feed}
@@ -121,10 +121,10 @@ module _ {C E T : Type 0} (D : Calls C E T) (k : ℕ) (c : C) where
   pub reported-behind : (is : List (Item C E)) (start : D .S) (b : ℕ) (p : List ℕ)
       → let x = host.script (out.overReporting D k) is start in
       let a = D .receive (x .end) c (b ∷ p) in
-      length (b ∷ p) ≤ a .used + k → host.script (out.overReporting D k) (is ++ run c ((b ∷ p) ∷ []) ∷ []) start ≡ after (x .trace) (record { trace = a .seen; end = a .next })
+      length (b ∷ p) ≤ a .used + k → host.script (out.overReporting D k) (is ++ run c ((b ∷ p) ∷ []) ∷ []) start ≡ following (x .trace) (record { trace = a .seen; end = a .next })
   reported-behind is start b p h =
       let x = host.script (out.overReporting D k) is start in
       runs-append (host.item (out.overReporting D k)) is (run c ((b ∷ p) ∷ []) ∷ []) start
-      ∙ ap (after (x .trace))
+      ∙ ap (following (x .trace))
       (runs-one (host.item (out.overReporting D k)) (run c ((b ∷ p) ∷ [])) (x .end)
       ∙ (runs-one (feed (out.overReporting D k) c) (b ∷ p) (x .end) ∙ reported-whole b p (x .end) h))

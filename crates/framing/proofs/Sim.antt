@@ -5,7 +5,7 @@ use Prim.Native.Nat.{ℕ, zero, suc}
 use mathlib.Core.Path.{_≡_, refl, _∙_}
 use mathlib.Core.List.{List, [], _∷_, _++_, append-assoc}
 use lib.ListN.{length, drop}
-use Rattle.framing.specs.Runs.{Ran, stop, after, runs, givens}
+use Rattle.framing.specs.Runs.{Ran, stop, following, runs, givens}
 use Rattle.framing.specs.Rounds.{rounds, byLength}
 use Rattle.framing.specs.Host as host
 use Rattle.framing.specs.Host.{Calls, Heard, Item, feedBy, feed, Hosted, HostedScript, Item.event, Item.run}
@@ -34,7 +34,7 @@ module _ {T U S Z : Type 0} (look : View T U) (Rel : List U → S → Z → Type
   here : (rest : List U) (s : S) (z : Z) → Rel rest s z → Same rest (stop s) (stop z)
   here rest s z r = record { trace = look .nothing; end = r }
 
-  then : (rest : List U) (l : List T) (m : List U) (x : Ran T S) (y : Ran U Z) → look .see l ≡ m → Same rest x y → Same rest (after l x) (after m y)
+  then : (rest : List U) (l : List T) (m : List U) (x : Ran T S) (y : Ran U Z) → look .see l ≡ m → Same rest x y → Same rest (following l x) (following m y)
   then rest l m x y e h = record { trace = look .both l (x .trace) ∙ rw (e, h .trace); end = h .end }
 
   later : (l m rest : List U) (s : S) (z : Z) → Rel ((l ++ m) ++ rest) s z → Rel (l ++ (m ++ rest)) s z
@@ -51,7 +51,7 @@ module _ {T U S Z : Type 0} (look : View T U) (Rel : List U → S → Z → Type
         let x = step i s in
         let y = runs pace (given i s) z in
         let w = runs pace (givens step given is (x .end)) (y .end) in
-        let q : runs pace (given i s ++ givens step given is (x .end)) z ≡ after (y .trace) w = runs-append pace (given i s) (givens step given is (x .end)) z in
+        let q : runs pace (given i s ++ givens step given is (x .end)) z ≡ following (y .trace) w = runs-append pace (given i s) (givens step given is (x .end)) z in
         let e : Same (w .trace ++ rest) x y = each i s z (w .trace ++ rest) (later (y .trace) (w .trace) rest s z (rw q at r)) in
         rw q (then rest (x .trace) (y .trace) (runs step is (x .end)) w (e .trace) (simulates is (x .end) (y .end) rest (e .end)))
 
@@ -123,7 +123,7 @@ module _ {C E T U : Type 0} (X : Calls C E T) (Y : Calls C E U) (look : View T U
       let a = hears c p s z (y .trace ++ rest) (later look Rel (o .seen) (y .trace) rest s z r) in
       let m = hosted-alike (X .receive s c p .next) rest (a .next) h in
       record {
-        run = after (X .receive s c p .seen) (m .run);
+        run = following (X .receive s c p .seen) (m .run);
         hosted = host.offer {s = s} p t {x = m .run} (rw (a .used) (m .hosted));
         same = then look Rel rest (X .receive s c p .seen) (o .seen) (m .run) y (a .seen) (m .same);
       }
@@ -141,7 +141,7 @@ module _ {C E T U : Type 0} (X : Calls C E T) (Y : Calls C E U) (look : View T U
       let d = does c e s z (y .trace ++ rest) (later look Rel (o .trace) (y .trace) rest s z r) in
       let m = script-alike (X .onEvent s c e .end) rest (d .end) w in
       record {
-        run = after (X .onEvent s c e .trace) (m .run);
+        run = following (X .onEvent s c e .trace) (m .run);
         hosted = host.gives c e (m .hosted);
         same = then look Rel rest (X .onEvent s c e .trace) (o .trace) (m .run) y (d .trace) (m .same);
       }
@@ -149,7 +149,7 @@ module _ {C E T U : Type 0} (X : Calls C E T) (Y : Calls C E U) (look : View T U
       let d = hosted-alike s (y .trace ++ rest) (later look Rel (x .trace) (y .trace) rest s z r) h in
       let m = script-alike (d .run .end) rest (d .same .end) w in
       record {
-        run = after (d .run .trace) (m .run);
+        run = following (d .run .trace) (m .run);
         hosted = host.feeds c ps (d .hosted) (m .hosted);
         same = then look Rel rest (d .run .trace) (x .trace) (m .run) y (d .same .trace) (m .same);
       }

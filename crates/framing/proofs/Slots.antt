@@ -8,7 +8,7 @@ use native.Mathlib.Omega.{arith}
 use Rattle.framing.specs.Runs.{Ran, runs, givens}
 use Rattle.framing.specs.Host as host
 use Rattle.framing.specs.Host.{Calls, One, One.one, Item, Item.event, Item.run, feed}
-use Rattle.framing.specs.Slots.{At, at, slotOf, onOne, ownOf, giving, givenTo, changed, slots, atSlot}
+use Rattle.framing.specs.Slots.{At, at, slotOf, onOne, ownOf, givingTo, givenTo, changed, slots, atSlot}
 use Rattle.framing.proofs.Runs.{runs-one}
 use Rattle.framing.proofs.Sim.{View, Same, Alike, simulates, run-fed}
 
@@ -78,21 +78,21 @@ module _ {C : Type 0} (same : C → C → Bool) (same-self : (c : C) → same c 
         by false e =
             record { trace = ap (ownOf same k) (sym (h .trace)) ∙ own-other k j (host.item D i (f j) .trace) e; end = h .end .1 k e ∙ r }
 
-    each : (k : C) (i : Item C E) (f : C → D .S) (z : D .S) (rest : List T) → Stands k (runs (host.item D) (giving same k i) z .trace ++ rest) f z
-        → Same (seenAt k) (Stands k) rest (host.item (slots same D) i f) (runs (host.item D) (giving same k i) z)
+    each : (k : C) (i : Item C E) (f : C → D .S) (z : D .S) (rest : List T) → Stands k (runs (host.item D) (givingTo same k i) z .trace ++ rest) f z
+        → Same (seenAt k) (Stands k) rest (host.item (slots same D) i f) (runs (host.item D) (givingTo same k i) z)
     each k (event j e) f z rest r = from k j (event one e) f z _ rest r (event-at j e f)
     each k (run j ps) f z rest r = from k j (run one ps) f z _ rest r (run-at j ps f)
 
-    givens-to : (k : C) (is : List (Item C E)) (f : C → D .S) → givens (host.item (slots same D)) (λ i g. giving same k i) is f ≡ givenTo same k is
+    givens-to : (k : C) (is : List (Item C E)) (f : C → D .S) → givens (host.item (slots same D)) (λ i g. givingTo same k i) is f ≡ givenTo same k is
     unfolding givens
     givens-to k [] f = refl
-    givens-to k (i ∷ is) f = ap (λ (l : List (Item One E)). giving same k i ++ l) (givens-to k is (host.item (slots same D) i f .end))
+    givens-to k (i ∷ is) f = ap (λ (l : List (Item One E)). givingTo same k i ++ l) (givens-to k is (host.item (slots same D) i f .end))
 
     -- EACH SLOT BY ITSELF: what is seen on slot k, and where it stands, is what its own engine does with the items given to it
     pub alone : (k : C) (is : List (Item C E)) (f : C → D .S)
         → atSlot same D k (host.script (slots same D) is f) ≡ host.script D (givenTo same k is) (f k)
     alone k is f =
-        let h = simulates (seenAt k) (Stands k) (host.item (slots same D)) (host.item D) (λ i g. giving same k i) (each k) is f (f k) [] refl in
+        let h = simulates (seenAt k) (Stands k) (host.item (slots same D)) (host.item D) (λ i g. givingTo same k i) (each k) is f (f k) [] refl in
         let q = givens-to k is f in
         (λ d. record { trace = h .trace d; end = h .end d }) ∙ ap (λ (js : List (Item One E)). host.script D js (f k)) q
 

@@ -8,7 +8,7 @@ use lib.ListN.{length, take, drop, length-drop}
 use lib.Seq.{take-append-le, drop-append-le, take-length, drop-length}
 use Rattle.laws.specs.Lists.{joined}
 use Rattle.framing.specs.Framing as once
-use Rattle.framing.specs.Framing.{Frame, frame, Framed, noEvent, first, splitBy, split, Frame.short, Frame.long, Frame.whole}
+use Rattle.framing.specs.Framing.{Frame, frame, Framed, noEvent, leading, splitBy, split, Frame.short, Frame.long, Frame.whole}
 use Rattle.framing.proofs.Rounds.{without-fuel}
 use Rattle.framing.proofs.Framing.{Begins, Begins.at-six, Begins.at-end, begins, frame-nil}
 
@@ -42,10 +42,10 @@ module _ (limit : ℕ) where
       → split limit (s ++ t) ≡ onward (splitBy f (split limit) s) t
   append-by s t short v ih = refl
   append-by s t long (at-six a b c) ih =
-      split-step (s ++ t) ∙ rw (c t, drop-append-le 6 s t b) (ap (first once.over-length) (ih (drop 6 s) (simp length-drop (omega arith))))
+      split-step (s ++ t) ∙ rw (c t, drop-append-le 6 s t b) (ap (leading once.over-length) (ih (drop 6 s) (simp length-drop (omega arith))))
   append-by s t (whole n) (at-end a b c d g) ih =
       split-step (s ++ t)
-      ∙ rw (g t, drop-append-le n s t c, take-append-le n s t c) (ap (first (once.pdu (take n s))) (ih (drop n s) (simp length-drop (omega arith))))
+      ∙ rw (g t, drop-append-le n s t c, take-append-le n s t c) (ap (leading (once.pdu (take n s))) (ih (drop n s) (simp length-drop (omega arith))))
 
   append-to : (k : ℕ) (s t : List ℕ) → length s ≤ k → split limit (s ++ t) ≡ onward (split limit s) t
   append-to zero [] t h = rw split-nil
@@ -70,4 +70,4 @@ module _ (limit : ℕ) where
       let single : split limit p ≡ record { events = once.pdu p ∷ []; rest = [] } = split-step p ∙ rw (e, take-length, drop-length, split-nil) in
       split-append p (joined ps)
       ∙ ap (λ (x : Framed). onward x (joined ps)) single
-      ∙ ap (first (once.pdu p)) (split-wholes w)
+      ∙ ap (leading (once.pdu p)) (split-wholes w)

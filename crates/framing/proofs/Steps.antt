@@ -10,8 +10,8 @@ use Rattle.framing.specs.Framing.{Brought, split}
 use Rattle.framing.specs.Host.{Entry, One, Item, Item.event, Item.run}
 use Rattle.framing.specs.Reference as ref
 use Rattle.framing.specs.Reference.{Machine, Reaction}
-use Rattle.framing.specs.Steps as steps
-use Rattle.framing.specs.Steps.{those, Took}
+use Rattle.framing.specs.Taken as steps
+use Rattle.framing.specs.Taken.{those, Took}
 
 those-append : {X : Type 0} (f : X → Bool) (l m : List X) → those f (l ++ m) ≡ those f l ++ those f m
 those-append f [] m = refl

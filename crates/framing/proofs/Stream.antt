@@ -13,8 +13,8 @@ use Rattle.framing.specs.Host as host
 use Rattle.framing.specs.Host.{One, Item, Item.event, Item.run}
 use Rattle.framing.specs.Reference as ref
 use Rattle.framing.specs.Reference.{Machine, Reaction}
-use Rattle.framing.specs.Steps as steps
-use Rattle.framing.specs.Steps.{Took}
+use Rattle.framing.specs.Taken as steps
+use Rattle.framing.specs.Taken.{Took}
 use Rattle.framing.specs.Line.{gotIn}
 use Rattle.framing.proofs.Split.{split-append}
 use Rattle.framing.proofs.Reference.{takes-none}

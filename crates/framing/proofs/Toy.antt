@@ -48,7 +48,7 @@ toy-laws most =
     }
 
 pub toy-cuts : (most : ℕ) (is : List (Item One ℕ)) (r : ℕ) (g o : List ℕ) → 6 + most ≤ length g → 6 + most ≤ length o
-    → eng.boxed (toy most) (host.script (eng.calls (toy most)) is (eng.fresh (toy most) r g o)) ≡ ref.reference (toy most) is (ref.box (toy most) r [])
+    → eng.engineBoxed (toy most) (host.script (eng.engineCalls (toy most)) is (eng.engineFresh (toy most) r g o)) ≡ ref.reference (toy most) is (ref.box (toy most) r [])
 toy-cuts most is r g o hg ho = from-fresh (toy most) (toy-laws most) is r g o (omega arith) hg ho
 
 -- ---- the engines of ShutOut, in an open association
@@ -79,11 +79,11 @@ one-piece D start t h =
 
 -- a PDU and a byte in one piece: the byte is not gathered
 pub over-reporting : (k : ℕ) → 1 ≤ k
-    → ((is : List (Item One ℕ)) → eng.boxed (toy 4) (host.script (out.overReporting (eng.calls (toy 4)) k) is (eng.fresh (toy 4) 1 (replicate 10 0) (replicate 10 0))) ≡ reference is) → ⊥
+    → ((is : List (Item One ℕ)) → eng.engineBoxed (toy 4) (host.script (out.overReporting (eng.engineCalls (toy 4)) k) is (eng.engineFresh (toy 4) 1 (replicate 10 0) (replicate 10 0))) ≡ reference is) → ⊥
 unfolding runs host.feed eng.receive eng.local put front ref.framed split byLength rounds frame lengthField be32 be16
 over-reporting k h t =
     let p : List ℕ = 1 ∷ 0 ∷ 0 ∷ 0 ∷ 0 ∷ 0 ∷ 2 ∷ [] in
-    let lent = eng.fresh (toy 4) 1 (replicate 10 0) (replicate 10 0) in
-    let e = reported-behind (eng.calls (toy 4)) k one [] lent 1 (0 ∷ 0 ∷ 0 ∷ 0 ∷ 0 ∷ 2 ∷ []) (omega arith) in
-    let z : _≡_ {A = ℕ} 0 1 = ap (λ (x : Ran (Entry ℕ) (ref.Box (toy 4))). length (x .end .got)) (sym (ap (eng.boxed (toy 4)) e) ∙ t (run one (p ∷ []) ∷ [])) in
+    let lent = eng.engineFresh (toy 4) 1 (replicate 10 0) (replicate 10 0) in
+    let e = reported-behind (eng.engineCalls (toy 4)) k one [] lent 1 (0 ∷ 0 ∷ 0 ∷ 0 ∷ 0 ∷ 2 ∷ []) (omega arith) in
+    let z : _≡_ {A = ℕ} 0 1 = ap (λ (x : Ran (Entry ℕ) (ref.Box (toy 4))). length (x .end .got)) (sym (ap (eng.engineBoxed (toy 4)) e) ∙ t (run one (p ∷ []) ∷ [])) in
     omega arith

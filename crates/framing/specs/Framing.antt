@@ -39,14 +39,14 @@ pub record Framed : Type 0 where
 abbrev pub noEvent : List ℕ → Framed
 noEvent s = record { events = []; rest = s }
 
-abbrev pub first : Brought → Framed → Framed
-first v x = record { events = v ∷ x .events; rest = x .rest }
+abbrev pub leading : Brought → Framed → Framed
+leading v x = record { events = v ∷ x .events; rest = x .rest }
 
 -- the event that s begins with, if any, and then `go` on what is behind it
 abbrev pub splitBy : Frame → (List ℕ → Framed) → List ℕ → Framed
 splitBy short go s = noEvent s
-splitBy long go s = first over-length (go (drop 6 s))
-splitBy (whole n) go s = first (pdu (take n s)) (go (drop n s))
+splitBy long go s = leading over-length (go (drop 6 s))
+splitBy (whole n) go s = leading (pdu (take n s)) (go (drop n s))
 
 -- All the events in s. What to believe of it is `split-step`: split limit s ≡ splitBy (frame limit s) (split limit) s.
 unfoldable pub split : ℕ → List ℕ → Framed

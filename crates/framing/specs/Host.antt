@@ -3,7 +3,7 @@ use Prim.Native.Nat.{ℕ}
 use mathlib.Core.List.{List, [], _∷_, _++_}
 use lib.ListN.{drop}
 use Rattle.laws.specs.Lists.{joined}
-use Rattle.framing.specs.Runs.{Ran, stop, after, runs}
+use Rattle.framing.specs.Runs.{Ran, stop, following, runs}
 use Rattle.framing.specs.Rounds.{byLength}
 
 -- ---- what a host sees
@@ -46,7 +46,7 @@ module _ {C E T : Type 0} (D : Calls C E T) where
 
   abbrev pub feedBy : C → (List ℕ → S → Ran T S) → List ℕ → S → Ran T S
   feedBy c go [] s = stop s
-  feedBy c go (b ∷ p) s = let a = receive s c (b ∷ p) in after (a .seen) (go (drop (a .used) (b ∷ p)) (a .next))
+  feedBy c go (b ∷ p) s = let a = receive s c (b ∷ p) in following (a .seen) (go (drop (a .used) (b ∷ p)) (a .next))
 
   -- What to believe of it is `feed-step`, where each call uses a byte: feed c p s ≡ feedBy c (feed c) p s.
   unfoldable pub feed : C → List ℕ → S → Ran T S
@@ -66,12 +66,12 @@ module _ {C E T : Type 0} (D : Calls C E T) where
   pub data Hosted (c : C) : S → List ℕ → Ran T S → Type 0 where
     done : {s : S} → Hosted c s [] (stop s)
     offer : {s : S} (p t : List ℕ) {x : Ran T S} → Hosted c (receive s c p .next) (drop (receive s c p .used) p ++ t) x
-        → Hosted c s (p ++ t) (after (receive s c p .seen) x)
+        → Hosted c s (p ++ t) (following (receive s c p .seen) x)
 
   -- a script in which each run is given by any such host, all of it before the next item
   pub data HostedScript : S → List (Item C E) → Ran T S → Type 0 where
     nothing : {s : S} → HostedScript s [] (stop s)
     gives : {s : S} (c : C) (e : E) {is : List (Item C E)} {y : Ran T S} → HostedScript (onEvent s c e .end) is y
-        → HostedScript s (event c e ∷ is) (after (onEvent s c e .trace) y)
+        → HostedScript s (event c e ∷ is) (following (onEvent s c e .trace) y)
     feeds : {s : S} (c : C) (ps : List (List ℕ)) {is : List (Item C E)} {x y : Ran T S} → Hosted c s (joined ps) x → HostedScript (x .end) is y
-        → HostedScript s (run c ps ∷ is) (after (x .trace) y)
+        → HostedScript s (run c ps ∷ is) (following (x .trace) y)

@@ -7,6 +7,6 @@ pub mod Engine
 pub mod Log
 pub mod Slots
 pub mod Line
-pub mod Steps
+pub mod Taken
 pub mod ShutOut
 pub mod Toy

@@ -39,9 +39,9 @@ module _ {C E T : Type 0} (D : Calls C E T) where
   some-seen (x ∷ l) = true
 
   -- `stops` says whether it stops work after a call of which this was seen
-  abbrev hearBy : (List T → Bool) → Bool → MayStop → C → List ℕ → Heard T MayStop
-  hearBy stops true x c p = record { used = length p; seen = []; next = x }
-  hearBy stops false x c p =
+  abbrev stoppingBy : (List T → Bool) → Bool → MayStop → C → List ℕ → Heard T MayStop
+  stoppingBy stops true x c p = record { used = length p; seen = []; next = x }
+  stoppingBy stops false x c p =
       let a = D .receive (x .own) c p in
       record { used = a .used; seen = a .seen; next = record { own = a .next; stopped = stops (a .seen) } }
 
@@ -49,7 +49,7 @@ module _ {C E T : Type 0} (D : Calls C E T) where
   stopping stops =
       record {
         S = MayStop;
-        receive = λ x c p. hearBy stops (x .stopped) x c p;
+        receive = λ x c p. stoppingBy stops (x .stopped) x c p;
         onEvent = λ x c e. let y = D .onEvent (x .own) c e in record { trace = y .trace; end = record { own = y .end; stopped = x .stopped } };
       }
 

@@ -28,13 +28,13 @@ module _ {C : Type 0} (same : C → C → Bool) where
   ownOf k [] = []
   ownOf k (x ∷ l) = cond (same (x .slot) k) (x .what ∷ []) [] ++ ownOf k l
 
-  abbrev pub giving : {E : Type 0} → C → Item C E → List (Item One E)
-  giving k i = cond (same (slotOf i) k) (onOne i ∷ []) []
+  abbrev pub givingTo : {E : Type 0} → C → Item C E → List (Item One E)
+  givingTo k i = cond (same (slotOf i) k) (onOne i ∷ []) []
 
   -- the items of a script that are given to slot k
   abbrev pub givenTo : {E : Type 0} → C → List (Item C E) → List (Item One E)
   givenTo k [] = []
-  givenTo k (i ∷ is) = giving k i ++ givenTo k is
+  givenTo k (i ∷ is) = givingTo k i ++ givenTo k is
 
   module _ {E T : Type 0} (D : Calls One E T) where
     -- the engines, that of slot c changed

@@ -40,8 +40,8 @@ saw told shown sent = record { told = told; shown = shown; sent = sent }
 -- ---- a script: a refused event; the opening; a run of three PDUs, the third too long (limit 4), and a byte; a byte more; a second opening, a PDU and half a
 -- header; the closing; a third opening, a PDU and a byte
 
-abbrev given : List (List ℕ) → List (Item One ℕ)
-given ps =
+abbrev toyScript : List (List ℕ) → List (Item One ℕ)
+toyScript ps =
     event one 2
     ∷ event one 1
     ∷ run one ps
@@ -54,13 +54,13 @@ given ps =
     ∷ []
 
 -- the run in one piece, and in four, one of them empty
-abbrev whole : List (List ℕ)
-whole = (1 ∷ 0 ∷ 0 ∷ 0 ∷ 0 ∷ 2 ∷ 7 ∷ 8 ∷ 2 ∷ 0 ∷ 0 ∷ 0 ∷ 0 ∷ 0 ∷ 9 ∷ 0 ∷ 0 ∷ 0 ∷ 0 ∷ 5 ∷ 77 ∷ []) ∷ []
+abbrev toyWhole : List (List ℕ)
+toyWhole = (1 ∷ 0 ∷ 0 ∷ 0 ∷ 0 ∷ 2 ∷ 7 ∷ 8 ∷ 2 ∷ 0 ∷ 0 ∷ 0 ∷ 0 ∷ 0 ∷ 9 ∷ 0 ∷ 0 ∷ 0 ∷ 0 ∷ 5 ∷ 77 ∷ []) ∷ []
 
 abbrev pieces : List (List ℕ)
 pieces = (1 ∷ 0 ∷ []) ∷ (0 ∷ 0 ∷ 0 ∷ 2 ∷ 7 ∷ []) ∷ [] ∷ (8 ∷ 2 ∷ 0 ∷ 0 ∷ 0 ∷ 0 ∷ 0 ∷ 9 ∷ 0 ∷ 0 ∷ 0 ∷ 0 ∷ 5 ∷ 77 ∷ []) ∷ []
 
-by-reference : ref.reference (toy 4) (given whole) (ref.box (toy 4) 0 [])
+by-reference : ref.reference (toy 4) (toyScript toyWhole) (ref.box (toy 4) 0 [])
     ≡ record {
       trace =
           saw 1 [] []
@@ -78,24 +78,24 @@ by-reference : ref.reference (toy 4) (given whole) (ref.box (toy 4) 0 [])
 unfolding runs ref.framed split byLength rounds frame lengthField be32 be16
 by-reference = refl
 
-in-pieces : eng.boxed (toy 4) (host.script (eng.calls (toy 4)) (given pieces) (eng.fresh (toy 4) 0 (replicate 10 0) (replicate 10 0)))
-    ≡ ref.reference (toy 4) (given whole) (ref.box (toy 4) 0 [])
+in-pieces : eng.engineBoxed (toy 4) (host.script (eng.engineCalls (toy 4)) (toyScript pieces) (eng.engineFresh (toy 4) 0 (replicate 10 0) (replicate 10 0)))
+    ≡ ref.reference (toy 4) (toyScript toyWhole) (ref.box (toy 4) 0 [])
 unfolding runs host.feed eng.receive eng.local put front ref.framed split byLength rounds frame lengthField be32 be16
 in-pieces = refl
 
 -- ---- document 01's lengths: 16,384 is taken at byte 16,390, and 16,385 is judged at byte 6
 
-abbrev lent : eng.Lent (toy 16384)
-lent = eng.fresh (toy 16384) 1 (replicate 16390 0) (replicate 16390 0)
+abbrev toyLent : eng.EngineState (toy 16384)
+toyLent = eng.engineFresh (toy 16384) 1 (replicate 16390 0) (replicate 16390 0)
 
-not-yet : host.script (eng.calls (toy 16384)) (run one ((8 ∷ 0 ∷ 0 ∷ 0 ∷ 64 ∷ 0 ∷ []) ∷ replicate 16383 5 ∷ []) ∷ []) lent .trace ≡ []
+not-yet : host.script (eng.engineCalls (toy 16384)) (run one ((8 ∷ 0 ∷ 0 ∷ 0 ∷ 64 ∷ 0 ∷ []) ∷ replicate 16383 5 ∷ []) ∷ []) toyLent .trace ≡ []
 unfolding runs host.feed eng.receive eng.local put front byLength rounds frame lengthField be32 be16
 not-yet = refl
 
-at-last : host.script (eng.calls (toy 16384)) (run one ((8 ∷ 0 ∷ 0 ∷ 0 ∷ 64 ∷ 0 ∷ []) ∷ replicate 16384 5 ∷ []) ∷ []) lent .trace ≡ saw 8 [] (8 ∷ 16390 ∷ []) ∷ []
+at-last : host.script (eng.engineCalls (toy 16384)) (run one ((8 ∷ 0 ∷ 0 ∷ 0 ∷ 64 ∷ 0 ∷ []) ∷ replicate 16384 5 ∷ []) ∷ []) toyLent .trace ≡ saw 8 [] (8 ∷ 16390 ∷ []) ∷ []
 unfolding runs host.feed eng.receive eng.local put front byLength rounds frame lengthField be32 be16
 at-last = refl
 
-at-six : host.script (eng.calls (toy 16384)) (run one ((8 ∷ 0 ∷ 0 ∷ 0 ∷ 64 ∷ 1 ∷ []) ∷ []) ∷ []) lent .trace ≡ saw 99 [] (99 ∷ []) ∷ []
+at-six : host.script (eng.engineCalls (toy 16384)) (run one ((8 ∷ 0 ∷ 0 ∷ 0 ∷ 64 ∷ 1 ∷ []) ∷ []) ∷ []) toyLent .trace ≡ saw 99 [] (99 ∷ []) ∷ []
 unfolding runs host.feed eng.receive eng.local put front byLength rounds frame lengthField be32 be16
 at-six = refl

@@ -9,7 +9,7 @@ use lib.Dec.{eqb}
 use borrow.Author.Tests.{not-true, not-false}
 use Rattle.laws.specs.Lists.{all, among}
 use Rattle.items.specs.Items.{Walk, done, broken, item, walk, filled, types, only, goodBodies, itemEnd}
-use Rattle.items.specs.Inner.{Rule, keeps}
+use Rattle.items.specs.Private.Rules.{Rule, keeps}
 use Rattle.items.proofs.WalkLaws.{Item, stop, over, walking}
 use Rattle.items.proofs.HoldLaws.{pass, goods-more, goods-done}
 
@@ -36,22 +36,22 @@ pub ruleset keeping = (keeps-more, keeps-bad, keeps-stop, keeps-over, not-true, 
 
 -- ---- A rule, told apart: the items fill the holder, the known types lead to the last state, and every known body is good
 -- the state after items of these types
-unfoldable pub after : Rule → ℕ → List ℕ → ℕ
-after R st [] = st
-after R st (t ∷ ts) = after R (R .next st t) ts
+unfoldable pub stateAfter : Rule → ℕ → List ℕ → ℕ
+stateAfter R st [] = st
+stateAfter R st (t ∷ ts) = stateAfter R (R .next st t) ts
 
 module _ (R : Rule) (known : List ℕ) (good : ℕ → List ℕ → Bool) (bodied : (t : ℕ) (b : List ℕ) → R .good t b ≡ cond (among t known) (good t b) true)
     (skips : (st t : ℕ) → among t known ≡ false → R .next st t ≡ st) where
-  pub keeps-is : (st : ℕ) (w : Walk) → keeps R st w ≡ (filled w && (eqb (after R st (only known (types w))) (R .last) && goodBodies known good w))
-  unfolding keeps filled types only after
+  pub keeps-is : (st : ℕ) (w : Walk) → keeps R st w ≡ (filled w && (eqb (stateAfter R st (only known (types w))) (R .last) && goodBodies known good w))
+  unfolding keeps filled types only stateAfter
   keeps-is st done = rw (goods-done known good) (sym (and-true (eqb st (R .last))))
   keeps-is st broken = refl
   keeps-is st (item t b w) = rw (bodied t b, goods-more known good t b w, keeps-is (R .next st t) w) (go (among t known) refl)
     where
       go : (d : Bool) → among t known ≡ d
-          → (cond d (good t b) true && (filled w && (eqb (after R (R .next st t) (only known (types w))) (R .last) && goodBodies known good w)))
-          ≡ (filled w && (eqb (after R st (cond d (t ∷ only known (types w)) (only known (types w)))) (R .last) && (cond d (good t b) true && goodBodies known good w)))
+          → (cond d (good t b) true && (filled w && (eqb (stateAfter R (R .next st t) (only known (types w))) (R .last) && goodBodies known good w)))
+          ≡ (filled w && (eqb (stateAfter R st (cond d (t ∷ only known (types w)) (only known (types w)))) (R .last) && (cond d (good t b) true && goodBodies known good w)))
       go true e =
-          let s : Bool = eqb (after R (R .next st t) (only known (types w))) (R .last) in
+          let s : Bool = eqb (stateAfter R (R .next st t) (only known (types w))) (R .last) in
           pass (filled w) (good t b) (s && goodBodies known good w) ∙ ap (λ (x : Bool). filled w && x) (pass s (good t b) (goodBodies known good w))
       go false e = rw (skips st t e)

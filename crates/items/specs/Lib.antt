@@ -1,3 +1,3 @@
-pub mod Inner
+pub mod Private
 pub mod Items
 pub mod Wire

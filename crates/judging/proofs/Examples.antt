@@ -13,7 +13,7 @@ use Rattle.names.specs.Name.{nameOk}
 use Rattle.titles.specs.Title.{titleOk}
 use Rattle.items.specs.Items.{step, walkIn, walk, filled, bodies, types, only, goodBodies, holds}
 use Rattle.items.specs.Wire.{itemBytes}
-use Rattle.contents.specs.Contents.{subsOk, good20H, one, transferOk, good21H, userGood, good50H, contextGood, topGood, topOk, ids, itemsOk, maximumIn}
+use Rattle.contents.specs.Contents.{subsOk, good20H, one, transferItemOk, good21H, userGood, good50H, contextGood, topGood, topOk, ids, itemsOk, maximumIn}
 use Rattle.pdvs.specs.Data.{pdvStep, pdvsIn, pdvs, pdvOk, pdvsOk}
 use Rattle.reasons.specs.Values.{rejectReasons, rejectOk, abortOk}
 use Rattle.judging.specs.Pdu.{whole, requestOk, acceptOk, rejectPduOk, dataOk, releaseOk, abortPduOk, validAs, kindOf, acceptable, maximumOf}
@@ -159,7 +159,7 @@ others =
     ∷ []
 
 pub kinds : (asked requests && (asked answers && asked others)) ≡ true
-unfolding kindOf validAs whole requestOk acceptOk rejectPduOk dataOk releaseOk abortPduOk rejectReasons rejectOk abortOk pdvStep pdvsIn pdvs pdvOk pdvsOk subsOk good20H one transferOk good21H userGood good50H contextGood topGood topOk ids itemsOk step walkIn walk filled bodies types only goodBodies holds itemBytes nameOk titleOk be16 be32 among distinct
+unfolding kindOf validAs whole requestOk acceptOk rejectPduOk dataOk releaseOk abortPduOk rejectReasons rejectOk abortOk pdvStep pdvsIn pdvs pdvOk pdvsOk subsOk good20H one transferItemOk good21H userGood good50H contextGood topGood topOk ids itemsOk step walkIn walk filled bodies types only goodBodies holds itemBytes nameOk titleOk be16 be32 among distinct
 kinds = refl
 
 -- version 2 is valid but not acceptable, 3 is; and the maximum
@@ -168,7 +168,7 @@ unfolding acceptable kindOf validAs whole requestOk subsOk good20H one userGood 
 versions = (refl, refl)
 
 pub maxima : maximumOf (ac (application ++ (answer 1 0 ++ user))) ≡ 16384
-unfolding maximumOf maximumIn kindOf validAs whole acceptOk one transferOk good21H userGood good50H contextGood topGood topOk ids itemsOk step walkIn walk filled bodies types only goodBodies holds itemBytes nameOk be16 be32 among distinct
+unfolding maximumOf maximumIn kindOf validAs whole acceptOk one transferItemOk good21H userGood good50H contextGood topGood topOk ids itemsOk step walkIn walk filled bodies types only goodBodies holds itemBytes nameOk be16 be32 among distinct
 maxima = refl
 
 -- a P-DATA-TF whose one PDV item fills it: of length 16,384, and of 16,385

@@ -17,7 +17,7 @@ use Rattle.titles.specs.Title.{titleOk}
 use Rattle.contents.specs.Contents.{itemsOk, maximumIn}
 use Rattle.pdvs.specs.Data.{pdvsOk}
 use Rattle.reasons.specs.Values.{rejectOk, abortOk}
-use Rattle.judging.specs.Inner.{kindAs}
+use Rattle.judging.specs.Private.Kinds.{kindAs}
 use Rattle.judging.specs.Pdu.{pduLength, whole, requestOk, acceptOk, rejectPduOk, dataOk, releaseOk, abortPduOk, validAs, kindOf, acceptable, maximumOf}
 
 -- ---- `is_whole`

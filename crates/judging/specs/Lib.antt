@@ -1,2 +1,2 @@
 pub mod Pdu
-pub mod Inner
+pub mod Private

@@ -1,7 +1,7 @@
 // Which kind of PDU the bytes are.
 ghost use mathlib.Core.Path.{_≡_};
 ghost use mathlib.Core.Bool.{true};
-ghost use Rattle.judging.specs.Inner.{kindAs};
+ghost use Rattle.judging.specs.Private.Kinds.{kindAs};
 ghost use Rattle.judging.specs.Pdu.{whole, requestOk, acceptOk, rejectPduOk, dataOk, releaseOk, abortPduOk, validAs, kindOf, acceptable as acceptableOf, maximumOf};
 
 fn is_whole(pdu: &[u8]) -> bool

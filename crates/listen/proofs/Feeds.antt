@@ -12,7 +12,7 @@ use native.Mathlib.Nat.{sub-zero, suc-sub-suc}
 use borrow.Author.Tests.{ltb-true, ltb-false, eqb-true, eqb-false}
 use Rattle.association.specs.declared.Answer.{Answer}
 use Rattle.association.specs.Calls.{Call, call, receiveOf}
-use Rattle.demand.specs.Calls.{Lent, leaves}
+use Rattle.demand_3.specs.Calls.{Lent, leaves}
 use Rattle.listen.specs.declared.Window.{Window}
 use Rattle.listen.specs.Window.{most, unreadOf, offerOf, pastOf, Filled}
 use Rattle.listen.specs.Listen.{offering, Fed, Listened}

@@ -6,15 +6,15 @@ use Prim.Native.Nat.{ℕ, _+_, _≤_}
 use native.Mathlib.Omega.{arith}
 use lib.ListN.{length, length-append, length-drop}
 use lib.Seq.{drop-nil}
-use Rattle.framing.specs.Runs.{Ran, stop, after}
+use Rattle.framing.specs.Runs.{Ran, stop, following}
 use Rattle.framing.specs.Host as host
 use Rattle.framing.specs.Host.{Entry, Hosted, HostedScript, One.one}
 use Rattle.association.specs.Events.{transportIndication, transportClosed}
 use Rattle.association.specs.Machine.{Seen}
-use Rattle.demand.specs.Calls.{Lent, leaves, fresh, machine, boxOf, wanted}
-use Rattle.demand.proofs.Same.{At}
-use Rattle.demand.proofs.Demand.{at-fresh, any-host}
-use Rattle.demand.proofs.Every.{at-received, at-given, held-received}
+use Rattle.demand_3.specs.Calls.{Lent, leaves, fresh, machine, boxOf, wanted}
+use Rattle.demand_3.proofs.Same.{At}
+use Rattle.demand_3.proofs.Demand.{at-fresh, any-host}
+use Rattle.demand_3.proofs.Every.{at-received, at-given, held-received}
 use Rattle.listen.specs.Listen as listen
 use Rattle.listen.specs.Listen.{given, offering, Fed, Listened, scriptOf, Ended}
 
@@ -35,7 +35,7 @@ calls-within r (listen.offers {b = b} {p = p} {t = t} f) =
 -- whoever goes on from t with what is left, and u behind it, has gone on from s with all that was read, and u behind it
 record Goes (s t : Lent) (bs p : List ℕ) : Type 0 where
   trace : List (Entry Seen)
-  goes : (u : List ℕ) (x : Ran (Entry Seen) Lent) → Hosted machine one t (p ++ u) x → Hosted machine one s (bs ++ u) (after trace x)
+  goes : (u : List ℕ) (x : Ran (Entry Seen) Lent) → Hosted machine one t (p ++ u) x → Hosted machine one s (bs ++ u) (following trace x)
 
 goes-on : {s t : Lent} {k : ℕ} {bs p : List ℕ} → Fed s k bs p t → Goes s t bs p
 goes-on listen.unread = record { trace = []; goes = λ u x h. h }
@@ -45,10 +45,10 @@ goes-on (listen.reads {bs = bs} b p f) =
 goes-on (listen.offers {b = b} {p = p} {t = t} f) =
     let g = goes-on f in
     let seen = machine .receive t one (b ∷ p) .seen in
-    record { trace = g .trace ++ seen; goes = λ u x h. rw (append-assoc (g .trace) seen (x .trace)) (g .goes u (after seen x) (host.offer (b ∷ p) u h)) }
+    record { trace = g .trace ++ seen; goes = λ u x h. rw (append-assoc (g .trace) seen (x .trace)) (g .goes u (following seen x) (host.offer (b ∷ p) u h)) }
 
 -- nothing is left, and one more call has no bytes
-ends : (t : Lent) → Hosted machine one t [] (after (machine .receive t one [] .seen) (stop (leaves (offering t []))))
+ends : (t : Lent) → Hosted machine one t [] (following (machine .receive t one [] .seen) (stop (leaves (offering t []))))
 ends t =
     let last = leaves (offering t []) in
     host.offer {s = t} [] [] (subst (λ (l : List ℕ). Hosted machine one last (l ++ []) (stop last)) (sym (drop-nil (offering t [] .answer .told .used))) host.done)
@@ -58,7 +58,7 @@ ends t =
 module _ (g o : List ℕ) (hg : 16390 ≤ length g) (ho : 16390 ≤ length o) where
   pub program : {t : Lent} → Listened (given (fresh g o) transportIndication) t → Ended (fresh g o) (given t transportClosed)
   program (listen.at-end {bs = bs} {t = t} f) =
-      let h = goes-on f .goes [] (after (machine .receive t one [] .seen) (stop (leaves (offering t [])))) (ends t) in
+      let h = goes-on f .goes [] (following (machine .receive t one [] .seen) (stop (leaves (offering t [])))) (ends t) in
       listen.whole bs _ (host.gives one transportIndication (host.feeds one (bs ∷ []) h (host.gives one transportClosed host.nothing))) refl
   program (listen.too-many f) =
       let h = calls-within (at-given (fresh g o) (at-fresh g o hg ho) transportIndication) f .1 in

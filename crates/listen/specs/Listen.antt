@@ -9,7 +9,7 @@ use Rattle.association.specs.declared.Assoc.{Assoc}
 use Rattle.association.specs.Events.{Local, transportIndication, transportClosed}
 use Rattle.association.specs.Machine.{Seen}
 use Rattle.association.specs.Calls.{Call, receiveOf, localOf}
-use Rattle.demand.specs.Calls.{Lent, leaves, machine}
+use Rattle.demand_3.specs.Calls.{Lent, leaves, machine}
 use Rattle.listen.specs.Window.{most}
 
 abbrev pub lent : Assoc → List ℕ → List ℕ → Lent

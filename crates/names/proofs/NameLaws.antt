@@ -10,8 +10,8 @@ use mathlib.Core.List.{List, [], _∷_}
 use lib.ListN.{length, drop, getD}
 use lib.Dec.{eqb, leb}
 use Rattle.laws.specs.Lists.{all, empty}
-use Rattle.names.specs.Name.{digit, component, nameOk, split, ahead}
-use Rattle.names.specs.Part.{next, reads, afterDot, afterDigit, ends}
+use Rattle.names.specs.Name.{digit, component, nameOk, splitAtDots, ahead}
+use Rattle.names.specs.Private.OnePass.{next, reads, afterDot, afterDigit, ends}
 use Rattle.names.specs.declared.name.Part.{Part}
 use Rattle.names.specs.declared.name.Part.the-variants.{Start, Zero, Digits, Bad}
 use Rattle.laws.proofs.Booleans.{left-of, right-of}
@@ -69,33 +69,33 @@ start-ahead : (x : ℕ) (l : List (List ℕ)) → rest Start (ahead x l) ≡ all
 start-ahead x [] = refl
 start-ahead x (h ∷ t) = refl
 
-start-all : (s : List ℕ) → rest Start (split 46 s) ≡ all component (split 46 s)
+start-all : (s : List ℕ) → rest Start (splitAtDots 46 s) ≡ all component (splitAtDots 46 s)
 start-all [] = refl
 start-all (x ∷ s) = go (eqb x 46)
   where
-    go : (d : Bool) → rest Start (cond d ([] ∷ split 46 s) (ahead x (split 46 s))) ≡ all component (cond d ([] ∷ split 46 s) (ahead x (split 46 s)))
+    go : (d : Bool) → rest Start (cond d ([] ∷ splitAtDots 46 s) (ahead x (splitAtDots 46 s))) ≡ all component (cond d ([] ∷ splitAtDots 46 s) (ahead x (splitAtDots 46 s)))
     go true = refl
-    go false = start-ahead x (split 46 s)
+    go false = start-ahead x (splitAtDots 46 s)
 
-rest-dot : (p : Part) (s : List ℕ) → rest (afterDot p) (split 46 s) ≡ rest p ([] ∷ split 46 s)
-rest-dot Start s = rest-bad (split 46 s)
+rest-dot : (p : Part) (s : List ℕ) → rest (afterDot p) (splitAtDots 46 s) ≡ rest p ([] ∷ splitAtDots 46 s)
+rest-dot Start s = rest-bad (splitAtDots 46 s)
 rest-dot Zero s = start-all s
 rest-dot Digits s = start-all s
-rest-dot Bad s = rest-bad (split 46 s)
+rest-dot Bad s = rest-bad (splitAtDots 46 s)
 
 -- ---- the whole
-rest-step : (p : Part) (x : ℕ) (s : List ℕ) (d : Bool) → rest (cond d (afterDot p) (cond (digit x) (afterDigit (eqb x 48) p) Bad)) (split 46 s) ≡ rest p (cond d ([] ∷ split 46 s) (ahead x (split 46 s)))
+rest-step : (p : Part) (x : ℕ) (s : List ℕ) (d : Bool) → rest (cond d (afterDot p) (cond (digit x) (afterDigit (eqb x 48) p) Bad)) (splitAtDots 46 s) ≡ rest p (cond d ([] ∷ splitAtDots 46 s) (ahead x (splitAtDots 46 s)))
 rest-step p x s true = rest-dot p s
-rest-step p x s false = rest-ahead p x (split 46 s)
+rest-step p x s false = rest-ahead p x (splitAtDots 46 s)
 
-reads-rest : (p : Part) (s : List ℕ) → reads p s ≡ rest p (split 46 s)
+reads-rest : (p : Part) (s : List ℕ) → reads p s ≡ rest p (splitAtDots 46 s)
 reads-rest Start [] = refl
 reads-rest Zero [] = refl
 reads-rest Digits [] = refl
 reads-rest Bad [] = refl
 reads-rest p (x ∷ s) = reads-rest (next p x) s ∙ rest-step p x s (eqb x 46)
 
-pub reads-name : (s : List ℕ) → reads Start s ≡ all component (split 46 s)
+pub reads-name : (s : List ℕ) → reads Start s ≡ all component (splitAtDots 46 s)
 reads-name s = reads-rest Start s ∙ start-all s
 
 -- ---- what the loop's proof cites

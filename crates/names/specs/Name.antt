@@ -12,9 +12,9 @@ ahead x [] = (x ∷ []) ∷ []
 ahead x (p ∷ ps) = (x ∷ p) ∷ ps
 
 -- the parts between the separators: one more than there are separators
-abbrev pub split : ℕ → List ℕ → List (List ℕ)
-split sep [] = [] ∷ []
-split sep (x ∷ xs) = cond (eqb x sep) ([] ∷ split sep xs) (ahead x (split sep xs))
+abbrev pub splitAtDots : ℕ → List ℕ → List (List ℕ)
+splitAtDots sep [] = [] ∷ []
+splitAtDots sep (x ∷ xs) = cond (eqb x sep) ([] ∷ splitAtDots sep xs) (ahead x (splitAtDots sep xs))
 
 -- '0' is 48, '9' is 57
 abbrev pub digit : ℕ → Bool
@@ -27,4 +27,4 @@ component (x ∷ xs) = all digit (x ∷ xs) && (not (eqb x 48) || empty xs)
 
 -- '.' is 46
 unfoldable pub nameOk : List ℕ → Bool
-nameOk s = leb 1 (length s) && leb (length s) 64 && all component (split 46 s)
+nameOk s = leb 1 (length s) && leb (length s) 64 && all component (splitAtDots 46 s)

@@ -1,7 +1,7 @@
 // A name (UID), read in one pass.
 ghost use mathlib.Core.Path.{_≡_};
 ghost use Rattle.names.specs.Name.{nameOk};
-ghost use Rattle.names.specs.Part.{next as nextPart};
+ghost use Rattle.names.specs.Private.OnePass.{next as nextPart};
 
 // What has been read of a name's present component.
 enum Part {

@@ -84,7 +84,7 @@ module _ (s : List ℕ) (n at e : ℕ) (a : at ≡ size (take n (pdvs s))) (p : 
         let d : Pdv = record { id = 0; control = 0; fragment = [] } in
         ap (λ (m : ℕ). getD (pdvs s) m d) (sym z) ∙ (sym (getD-drop n (pdvs s) 0 d) ∙ ap (λ (l : List Pdv). getD l 0 d) the-pdv)
 
--- ---- `place_of`
+-- ---- `pdv_place`
 pub record Reaching (number : ℕ) (s : List ℕ) (at k : ℕ) : Type 0 where
   pub place : at ≡ size (take k (pdvs s))
   pub below : k ≤ number

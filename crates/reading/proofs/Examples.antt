@@ -18,7 +18,7 @@ use Rattle.judging.specs.Pdu.{whole, requestOk, rejectPduOk, dataOk, abortPduOk
 use Rattle.sheets.specs.Sheet.{recordBytes, contextRecords, sheetOf}
 use Rattle.reading.specs.Associate.{contextOf, proposed, applicationOf, applicationAt, sheetIn, associateOf, filling}
 use Rattle.reading.specs.Data.{pdvsOf, pdv, startOf, dataOf, fragmentOf}
-use Rattle.reading.specs.Values.{rejectOf, abortOf}
+use Rattle.reading.specs.Values.{rejectIn, abortIn}
 
 -- ---- a P-DATA-TF with a fragment of three bytes and an empty one
 abbrev two-pdvs : List ℕ
@@ -43,16 +43,16 @@ unfolding fragmentOf dataOf pdvsOf pdv startOf kindOf validAs whole dataOk pdvSt
 own-part = refl
 
 -- ---- an ABORT of source 0 with reason 9 is read; one of source 1 is refused, and so is an RJ
-pub abort-nine : abortOf (7 ∷ 0 ∷ 0 ∷ 0 ∷ 0 ∷ 4 ∷ 0 ∷ 0 ∷ 0 ∷ 9 ∷ []) ≡ record { refusal = 0; source = 0; reason = 9 }
-unfolding abortOf kindOf validAs whole abortPduOk abortOk among be16 be32
+pub abort-nine : abortIn (7 ∷ 0 ∷ 0 ∷ 0 ∷ 0 ∷ 4 ∷ 0 ∷ 0 ∷ 0 ∷ 9 ∷ []) ≡ record { refusal = 0; source = 0; reason = 9 }
+unfolding abortIn kindOf validAs whole abortPduOk abortOk among be16 be32
 abort-nine = refl
 
-pub abort-one : abortOf (7 ∷ 0 ∷ 0 ∷ 0 ∷ 0 ∷ 4 ∷ 0 ∷ 0 ∷ 1 ∷ 0 ∷ []) ≡ record { refusal = 7; source = 0; reason = 0 }
-unfolding abortOf kindOf validAs whole abortPduOk abortOk among be16 be32
+pub abort-one : abortIn (7 ∷ 0 ∷ 0 ∷ 0 ∷ 0 ∷ 4 ∷ 0 ∷ 0 ∷ 1 ∷ 0 ∷ []) ≡ record { refusal = 7; source = 0; reason = 0 }
+unfolding abortIn kindOf validAs whole abortPduOk abortOk among be16 be32
 abort-one = refl
 
-pub reject-version : rejectOf (3 ∷ 0 ∷ 0 ∷ 0 ∷ 0 ∷ 4 ∷ 0xFF ∷ 1 ∷ 2 ∷ 2 ∷ []) ≡ record { refusal = 0; result = 1; source = 2; reason = 2 }
-unfolding rejectOf kindOf validAs whole rejectPduOk rejectReasons rejectOk among be16 be32
+pub reject-version : rejectIn (3 ∷ 0 ∷ 0 ∷ 0 ∷ 0 ∷ 4 ∷ 0xFF ∷ 1 ∷ 2 ∷ 2 ∷ []) ≡ record { refusal = 0; result = 1; source = 2; reason = 2 }
+unfolding rejectIn kindOf validAs whole rejectPduOk rejectReasons rejectOk among be16 be32
 reject-version = refl
 
 -- ---- an RQ with a skipped item in front, and one context with two transfer syntaxes

@@ -22,7 +22,7 @@ use Rattle.items.proofs.PlaceLaws.{stands}
 use Rattle.sheets.specs.Sheet.{recordBytes}
 use Rattle.sheets.specs.Record.{recordOf}
 use Rattle.sheets.proofs.RecordLaws.{record-length, cut-short}
-use Rattle.reading.specs.Inner.{each, bodyRecords, bodyRows, rowsOf, Written}
+use Rattle.reading.specs.Private.Records.{each, bodyRecords, bodyRows, rowsOf, Written}
 
 -- ---- one record
 pub record-132 : (id result : ℕ) (a x : List ℕ) → length (recordOf id result a x) ≡ 132

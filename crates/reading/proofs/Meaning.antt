@@ -18,7 +18,7 @@ use Rattle.contents.specs.Contents.{bodyId, ids, good20H, good21H}
 use Rattle.contents.proofs.GoodLaws.{odd-20, abstract-name, some-transfer, transfer-names, odd-21, result-21, transfer-name, items-20, items-21, items-some, items-distinct}
 use Rattle.judging.specs.Pdu.{kindOf}
 use Rattle.judging.proofs.KindLaws.{request-items, accept-items}
-use Rattle.sheets.specs.Contexts.{contextId, answeredId, contextOk, transferOk, answeredOk, contextsOk, allAnsweredOk}
+use Rattle.sheets.specs.Contexts.{contextId, answeredId, contextOk, transferNameOk, answeredOk, contextsOk, allAnsweredOk}
 use Rattle.sheets.specs.Sheet.{contextsIn, answersIn, proposalOk, answersOk}
 use Rattle.sheets.proofs.Inverse.{contexts-back, contexts-proposal, answered-back, answered-answers, proposal-whole, answers-whole}
 use Rattle.reading.specs.Associate.{contextOf, answerOf, proposed, answered, applicationOf, applicationAt, sheetIn, refused, fieldsOf, associateRefusal, associateOf, filling, Read}
@@ -64,7 +64,7 @@ module _ (x : List ℕ) (v : kindOf x ≡ 1) where
 
 -- ---- and so are the answers of a valid AC
 answer-good : (b : List ℕ) → good21H b ≡ true → answeredOk (answerOf b) ≡ true
-unfolding answeredOk answerOf transferOk
+unfolding answeredOk answerOf transferNameOk
 answer-good b g = both-of _ _ (odd-21 b g) (both-of _ _ (le-leb (getD b 2 0) 4 (result-21 b g)) (transfer-name b g))
 
 answers-good : (bs : List (List ℕ)) → all good21H bs ≡ true → all answeredOk (map answerOf bs) ≡ true

@@ -30,7 +30,7 @@ use Rattle.sheets.specs.Sheet.{recordBytes, contextRecords, sheetOf, answerShee
 use Rattle.sheets.specs.Record.{recordOf}
 use Rattle.sheets.proofs.RecordLaws.{record-whole}
 use Rattle.reading.specs.Associate.{contextOf, answerOf, proposed, answered, applicationOf, applicationAt, sheetIn, refused, fieldsOf, associateOf, filling, Read}
-use Rattle.reading.specs.Inner.{each, bodyRecords, allRecords, bodyRows, rowsOf, Written, contextType, fieldsWith}
+use Rattle.reading.specs.Private.Records.{each, bodyRecords, allRecords, bodyRows, rowsOf, Written, contextType, fieldsWith}
 use Rattle.reading.specs.declared.associate.Associate.{Associate}
 use Rattle.reading.proofs.FillLaws.{record-132}
 

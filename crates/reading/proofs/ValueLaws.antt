@@ -13,14 +13,14 @@ use Rattle.laws.proofs.Booleans.{left-of}
 use Rattle.judging.specs.Pdu.{pduLength, rejectPduOk, abortPduOk, kindOf}
 use Rattle.reasons.specs.Values.{rejectOk, abortOk}
 use Rattle.judging.proofs.KindLaws.{whole-length, kind-whole, kind-reject, kind-abort}
-use Rattle.reading.specs.Values.{rejectOf, abortOf}
+use Rattle.reading.specs.Values.{rejectIn, abortIn}
 use Rattle.reading.specs.declared.values.RejectRead.{RejectRead}
 use Rattle.reading.specs.declared.values.AbortRead.{AbortRead}
 
 module _ (x : List ℕ) (k : ℕ) (p : k ≡ kindOf x) where
   -- ---- `read_reject`
-  pub reject-other : (k ≡ 3 → ⊥) → record { refusal = 7; result = 0; source = 0; reason = 0 } ≡ rejectOf x
-  unfolding rejectOf
+  pub reject-other : (k ≡ 3 → ⊥) → record { refusal = 7; result = 0; source = 0; reason = 0 } ≡ rejectIn x
+  unfolding rejectIn
   reject-other h = rw (← p, ne-eqb k 3 h)
 
   module _ (h : k ≡ 3) where
@@ -41,13 +41,13 @@ module _ (x : List ℕ) (k : ℕ) (p : k ≡ kindOf x) where
     pub reject-nine : 9 < length x
     reject-nine = let l = reject-ten in omega arith
 
-    pub reject-is : record { refusal = 0; result = getD x 7 0; source = getD x 8 0; reason = getD x 9 0 } ≡ rejectOf x
-    unfolding rejectOf
+    pub reject-is : record { refusal = 0; result = getD x 7 0; source = getD x 8 0; reason = getD x 9 0 } ≡ rejectIn x
+    unfolding rejectIn
     reject-is = rw (← p, h)
 
   -- ---- `read_abort`
-  pub abort-other : (k ≡ 7 → ⊥) → record { refusal = 7; source = 0; reason = 0 } ≡ abortOf x
-  unfolding abortOf
+  pub abort-other : (k ≡ 7 → ⊥) → record { refusal = 7; source = 0; reason = 0 } ≡ abortIn x
+  unfolding abortIn
   abort-other h = rw (← p, ne-eqb k 7 h)
 
   module _ (h : k ≡ 7) where
@@ -65,8 +65,8 @@ module _ (x : List ℕ) (k : ℕ) (p : k ≡ kindOf x) where
     pub abort-nine : 9 < length x
     abort-nine = let l = abort-ten in omega arith
 
-    pub abort-is : record { refusal = 0; source = getD x 8 0; reason = getD x 9 0 } ≡ abortOf x
-    unfolding abortOf
+    pub abort-is : record { refusal = 0; source = getD x 8 0; reason = getD x 9 0 } ≡ abortIn x
+    unfolding abortIn
     abort-is = rw (← p, h)
 
 pub ruleset reject-laws = (needs, reject-other, reject-seven, reject-eight, reject-nine, reject-is)

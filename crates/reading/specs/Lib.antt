@@ -1,4 +1,4 @@
 pub mod Associate
 pub mod Values
 pub mod Data
-pub mod Inner
+pub mod Private

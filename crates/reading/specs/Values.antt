@@ -16,14 +16,14 @@ valueTests kind pdu = (not (eqb (kindOf pdu) kind), 7) ∷ []
 abbrev pub valueRefusal : ℕ → List ℕ → ℕ
 valueRefusal kind pdu = firstDue (valueTests kind pdu)
 
-unfoldable pub rejectOf : List ℕ → RejectRead
-rejectOf pdu =
+unfoldable pub rejectIn : List ℕ → RejectRead
+rejectIn pdu =
     cond (eqb (valueRefusal 3 pdu) 0)
     (record { refusal = 0; result = getD pdu 7 0; source = getD pdu 8 0; reason = getD pdu 9 0 })
     (record { refusal = valueRefusal 3 pdu; result = 0; source = 0; reason = 0 })
 
-unfoldable pub abortOf : List ℕ → AbortRead
-abortOf pdu =
+unfoldable pub abortIn : List ℕ → AbortRead
+abortIn pdu =
     cond (eqb (valueRefusal 7 pdu) 0)
     (record { refusal = 0; source = getD pdu 8 0; reason = getD pdu 9 0 })
     (record { refusal = valueRefusal 7 pdu; source = 0; reason = 0 })

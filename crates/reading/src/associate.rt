@@ -3,7 +3,7 @@ ghost use mathlib.Core.Path.{_≡_};
 ghost use Prim.Native.Nat.{_≤_};
 ghost use lib.ListN.{length};
 ghost use Rattle.reading.specs.Associate.{refused as refusedWith, Read};
-ghost use Rattle.reading.specs.Inner.{fieldsWith, contextType};
+ghost use Rattle.reading.specs.Private.Records.{fieldsWith, contextType};
 use crate::fill::put_contexts;
 use crate::fill::rows;
 

@@ -15,7 +15,7 @@ pub struct DataRead {
 }
 
 // How many bytes of a P-DATA-TF's body the PDV items before a number take; all of them where there are no more than that.
-fn place_of(number: usize, s: &[u8]) -> usize
+fn pdv_place(number: usize, s: &[u8]) -> usize
     ensures { λ r. ⌜ r ≡ size (take number (pdvs (now (s .entry)))) ⌝ }
 {
     let mut at = 0;
@@ -45,7 +45,7 @@ pub fn read_data(pdu: &[u8], number: usize) -> DataRead
         };
     }
     let s = &pdu[6..];
-    let at = place_of(number, s);
+    let at = pdv_place(number, s);
     let e = pdvs::pdv_end(s, at);
     if e == 0 {
         return DataRead {

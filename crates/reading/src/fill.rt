@@ -5,7 +5,7 @@ ghost use lib.ListN.{length, drop};
 ghost use Rattle.octets.specs.Put.{Placed};
 ghost use Rattle.items.specs.Items.{walk, bodies};
 ghost use Rattle.sheets.specs.Record.{recordOf};
-ghost use Rattle.reading.specs.Inner.{each, bodyRecords, allRecords, bodyRows, rowsOf, Written};
+ghost use Rattle.reading.specs.Private.Records.{each, bodyRecords, allRecords, bodyRows, rowsOf, Written};
 
 // What follows the four bytes of a context.
 fn behind_four(b: &[u8]) -> &[u8]

@@ -1,6 +1,6 @@
 // Reading an RJ and an ABORT.
 ghost use mathlib.Core.Path.{_≡_};
-ghost use Rattle.reading.specs.Values.{rejectOf, abortOf};
+ghost use Rattle.reading.specs.Values.{rejectIn, abortIn};
 
 // refusal: 0, or 7 with all else 0.
 pub struct RejectRead {
@@ -17,7 +17,7 @@ pub struct AbortRead {
 }
 
 pub fn read_reject(pdu: &[u8]) -> RejectRead
-    ensures { λ r. ⌜ r ≡ rejectOf (now (pdu .entry)) ⌝ }
+    ensures { λ r. ⌜ r ≡ rejectIn (now (pdu .entry)) ⌝ }
 {
     if judging::kind_of(pdu) != 3 {
         return RejectRead {
@@ -36,7 +36,7 @@ pub fn read_reject(pdu: &[u8]) -> RejectRead
 }
 
 pub fn read_abort(pdu: &[u8]) -> AbortRead
-    ensures { λ r. ⌜ r ≡ abortOf (now (pdu .entry)) ⌝ }
+    ensures { λ r. ⌜ r ≡ abortIn (now (pdu .entry)) ⌝ }
 {
     if judging::kind_of(pdu) != 7 {
         return AbortRead {

@@ -14,7 +14,7 @@ use borrow.Author.Needs.{needs}
 use borrow.Author.Tests.{leb-true, leb-false, ltb-true, ltb-false}
 use Rattle.octets.specs.Put.{put, Placed}
 use Rattle.octets.proofs.PutLaws.{put-out, put-length, put-put}
-use Rattle.receiving.specs.Gathering.{wantOf, Fills, Filled, Cut}
+use Rattle.receiving.specs.Private.Gathering.{wantOf, Fills, Copied, Cut}
 
 -- ---- how many are wanted
 pub record Wanted (have need n w : ℕ) : Type 0 where
@@ -54,7 +54,7 @@ module _ (b : List ℕ) (c from need : ℕ) (p : List ℕ) (F : Fills b c from n
   pub fill-some : to ≤ length p
   fill-some = wanted-at c need e .some
 
-  pub fill-done : (b′ : List ℕ) (r : ℕ) → Placed b (c + from) (take (to - from) (drop from p)) r b′ → Filled b c from need p b′ to
+  pub fill-done : (b′ : List ℕ) (r : ℕ) → Placed b (c + from) (take (to - from) (drop from p)) r b′ → Copied b c from need p b′ to
   fill-done b′ r P =
       let n : length (take (to - from) (drop from p)) ≡ to - from = length-take-le (to - from) (drop from p) (simp length-drop (omega (arith, fill-some))) in
       record { to = e; room = omega (arith, F .room); buffer = put-out b (c + from) (take (to - from) (drop from p)) P (omega (arith, n, fill-up, F .room)) }
@@ -95,7 +95,7 @@ module _ (b : List ℕ) (c from need : ℕ) (p : List ℕ) (F : Fills b c from n
   pub lead-fills : Fills b c from mid p
   lead-fills = record { up = reached; room = omega (arith, fewer, F .room) }
 
-  module _ (b₁ : List ℕ) (k : ℕ) (L : Filled b c from mid p b₁ k) where
+  module _ (b₁ : List ℕ) (k : ℕ) (L : Copied b c from mid p b₁ k) where
     up-to : from ≤ k
     up-to = omega (arith, reached, L .to)
 
@@ -114,11 +114,11 @@ module _ (b : List ℕ) (c from need : ℕ) (p : List ℕ) (F : Fills b c from n
     pub rest-fills : Fills b₁ c k need p
     rest-fills = record { up = omega (arith, fewer, L .to); room = omega (arith, F .room, lead-kept) }
 
-    module _ (b₂ : List ℕ) (r : ℕ) (R : Filled b₁ c k need p b₂ r) where
+    module _ (b₂ : List ℕ) (r : ℕ) (R : Copied b₁ c k need p b₂ r) where
       on : k ≤ r
       on = omega (arith, fewer, L .to, R .to)
 
-      pub rest-done : Filled b c from need p b₂ r
+      pub rest-done : Copied b c from need p b₂ r
       rest-done =
           let place : c + k ≡ c + from + length (take (k - from) (drop from p)) = omega (arith, lead-length, up-to) in
           let left : r - from - (k - from) ≡ r - k = omega (arith, up-to, on) in

@@ -18,7 +18,7 @@ use Rattle.octets.proofs.PutLaws.{put-out, put-behind, put-length, put-put}
 use Rattle.framing.specs.Framing.{Frame, frame, lengthField, Frame.short, Frame.long, Frame.whole}
 use Rattle.framing.proofs.Framing.{frame-few, frame-part, frame-over, frame-full, length-take-field, length-append-field, no-event-yet}
 use Rattle.framing.proofs.Buffers.{take-put}
-use Rattle.receiving.specs.Gathering.{wantOf, Fills, Filled, Fit, Gathered}
+use Rattle.receiving.specs.Private.Gathering.{wantOf, Fills, Copied, RoomToGather, Gathered}
 use Rattle.receiving.proofs.FillLaws.{Wanted, wanted, wanted-at, take-on}
 use Rattle.receiving.proofs.NewLaws.{opens, behind-none}
 use Rattle.receiving.specs.declared.gather.Head.{Head}
@@ -26,7 +26,7 @@ use Rattle.receiving.specs.declared.gather.Head.the-variants.{Short, Lon
 use Rattle.receiving.specs.declared.gather.Got.{Got}
 
 -- ---- the header, then the body
-module _ (b : List ℕ) (c : ℕ) (p : List ℕ) (f : Fit b c) where
+module _ (b : List ℕ) (c : ℕ) (p : List ℕ) (f : RoomToGather b c) where
   lg : length (take c b) ≡ c
   lg = length-take-le c b (f .within)
 
@@ -66,7 +66,7 @@ module _ (b : List ℕ) (c : ℕ) (p : List ℕ) (f : Fit b c) where
   pub first-fills : Fills b c 0 6 p
   first-fills = record { up = omega arith; room = omega (arith, near, f .room) }
 
-  module _ (h : ℕ) (b₁ : List ℕ) (F : Filled b c 0 6 p b₁ h) where
+  module _ (h : ℕ) (b₁ : List ℕ) (F : Copied b c 0 6 p b₁ h) where
     H : Wanted c 6 (length p) h
     H = wanted-at c 6 (F .to)
 
@@ -132,7 +132,7 @@ module _ (b : List ℕ) (c : ℕ) (p : List ℕ) (f : Fit b c) where
         pub second-fills : Fills b₁ c h (6 + len) p
         second-fills = record { up = up; room = omega (arith, near₂, kept, f .room) }
 
-        module _ (m : ℕ) (b₂ : List ℕ) (G : Filled b₁ c h (6 + len) p b₂ m) where
+        module _ (m : ℕ) (b₂ : List ℕ) (G : Copied b₁ c h (6 + len) p b₂ m) where
           W : Wanted c (6 + len) (length p) m
           W = wanted-at c (6 + len) (G .to)
 

@@ -15,8 +15,8 @@ use Rattle.association.specs.declared.Assoc.{Assoc}
 use Rattle.association.specs.declared.Answer.{Answer}
 use Rattle.association.specs.Record.{dropping}
 use Rattle.association.specs.Refusals.{refusedWith}
-use Rattle.association.specs.Events.{eventOf, invalid}
-use Rattle.association.specs.Deeds.{Input.whole, Input.long}
+use Rattle.association.specs.Events.{eventOf, invalidPdu}
+use Rattle.association.specs.Performing.{Input.whole, Input.long}
 use Rattle.association.specs.Machine.{onEvent}
 use Rattle.association.specs.Calls.{call, receiveRefusal, receiveOf}
 use Rattle.receiving.proofs.Opened.{Open, opened}
@@ -24,8 +24,8 @@ use Rattle.receiving.proofs.Ways.{receive-refused, way-dropped, way-sho
 use Rattle.receiving.specs.declared.gather.Head.{Head}
 use Rattle.receiving.specs.declared.gather.Head.the-variants.{Short, Long, Whole}
 use Rattle.receiving.specs.declared.gather.Got.{Got}
-use Rattle.receiving.specs.Gathering.{headOf, usedOf, Fit, Gathered}
-use Rattle.receiving.specs.Steps.{Did, quietOf}
+use Rattle.receiving.specs.Private.Gathering.{headOf, usedOf, RoomToGather, Gathered}
+use Rattle.receiving.specs.Private.Reactions.{Reported, quietOf}
 
 module _ (a : Assoc) (g o : List ℕ) (num : ℕ) (en : num ≡ receiveRefusal a g o) where
   pub refused-at : (p : List ℕ) (r : Answer) → (num ≡ 0 → ⊥) → r ≡ refusedWith num a → call r g o ≡ receiveOf a g p o
@@ -41,7 +41,7 @@ module _ (a : Assoc) (g o : List ℕ) (num : ℕ) (en : num ≡ receiveRefusal a
     pub ten-at : 10 ≤ length o
     ten-at = O .ten
 
-    pub fit-at : Fit g (a .gathered)
+    pub fit-at : RoomToGather g (a .gathered)
     fit-at = O .fit
 
     pub dropped-at : (p : List ℕ) (x : Bool) (r : Answer) → x ≡ dropping a → x ≡ true → r ≡ quietOf a (a .gathered) (length p) → call r g o ≡ receiveOf a g p o
@@ -60,9 +60,9 @@ module _ (a : Assoc) (g o : List ℕ) (num : ℕ) (en : num ≡ receiveRefusal a
 
       abbrev Outcome : Head → Type 0
       Outcome Short = (r : Answer) → r ≡ quietOf a (a .gathered + w .used) (w .used) → call r g′ o ≡ receiveOf a g p o
-      Outcome Long = (o′ : List ℕ) (r : Answer) → Did (onEvent invalid a long) o (w .used) 0 r o′ → call r g′ o′ ≡ receiveOf a g p o
+      Outcome Long = (o′ : List ℕ) (r : Answer) → Reported (onEvent invalidPdu a long) o (w .used) 0 r o′ → call r g′ o′ ≡ receiveOf a g p o
       Outcome Whole =
-          (o′ : List ℕ) (r : Answer) → Did (onEvent (eventOf a pdu) a (whole pdu)) o (w .used) (a .gathered + w .used) r o′ → call r g′ o′ ≡ receiveOf a g p o
+          (o′ : List ℕ) (r : Answer) → Reported (onEvent (eventOf a pdu) a (whole pdu)) o (w .used) (a .gathered + w .used) r o′ → call r g′ o′ ≡ receiveOf a g p o
 
       by : (k : Frame) → frame 16384 (take (a .gathered) g ++ p) ≡ k → w .used ≡ usedOf k (a .gathered) (length p) → Begins 16384 (take (a .gathered) g) p k
           → Outcome (headOf k)
@@ -82,7 +82,7 @@ module _ (a : Assoc) (g o : List ℕ) (num : ℕ) (en : num ≡ receiveRefusal a
       pub short-at : (r : Answer) → w .head ≡ Short → r ≡ quietOf a (a .gathered + w .used) (w .used) → call r g′ o ≡ receiveOf a g p o
       short-at r q e = outcome Short q r e
 
-      pub long-at : (o′ : List ℕ) (r : Answer) → w .head ≡ Long → Did (onEvent invalid a long) o (w .used) 0 r o′ → call r g′ o′ ≡ receiveOf a g p o
+      pub long-at : (o′ : List ℕ) (r : Answer) → w .head ≡ Long → Reported (onEvent invalidPdu a long) o (w .used) 0 r o′ → call r g′ o′ ≡ receiveOf a g p o
       long-at o′ r q D = outcome Long q o′ r D
 
       kept : length g′ ≡ length g
@@ -97,9 +97,9 @@ module _ (a : Assoc) (g o : List ℕ) (num : ℕ) (en : num ≡ receiveRefusal a
       whole-length = sym (length-take-le (a .gathered + w .used) g′ whole-fits)
 
       pub whole-at : (o′ : List ℕ) (r : Answer) → w .head ≡ Whole
-          → Did (onEvent (eventOf a (take (a .gathered + w .used) g′)) a (whole (take (a .gathered + w .used) g′))) o (w .used) (length (take (a .gathered + w .used) g′)) r o′
+          → Reported (onEvent (eventOf a (take (a .gathered + w .used) g′)) a (whole (take (a .gathered + w .used) g′))) o (w .used) (length (take (a .gathered + w .used) g′)) r o′
           → call r g′ o′ ≡ receiveOf a g p o
       unfolding pdu
       whole-at o′ r q D =
           outcome Whole q o′ r
-          (subst (λ (k : ℕ). Did (onEvent (eventOf a (take (a .gathered + w .used) g′)) a (whole (take (a .gathered + w .used) g′))) o (w .used) k r o′) (sym whole-length) D)
+          (subst (λ (k : ℕ). Reported (onEvent (eventOf a (take (a .gathered + w .used) g′)) a (whole (take (a .gathered + w .used) g′))) o (w .used) k r o′) (sym whole-length) D)

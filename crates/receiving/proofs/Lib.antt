@@ -1,7 +1,7 @@
 pub mod FillLaws
 pub mod NewLaws
 pub mod GatherLaws
-pub mod DeedLaws
+pub mod ReceivedLaws
 pub mod Opened
 pub mod Ways
 pub mod HearLaws

@@ -11,12 +11,12 @@ use Rattle.octets.specs.Put.{put, Placed}
 use Rattle.octets.proofs.PutLaws.{put-out}
 use Rattle.framing.specs.Framing.{Frame, frame, lengthField, Frame.short, Frame.long, Frame.whole}
 use Rattle.framing.proofs.Framing.{frame-part, frame-over, frame-full}
-use Rattle.receiving.specs.Gathering.{wantOf, Fit, Opens, Gathered}
+use Rattle.receiving.specs.Private.Gathering.{wantOf, RoomToGather, Opens, Gathered}
 use Rattle.receiving.specs.declared.gather.Head.the-variants.{Short, Long, Whole}
 use Rattle.receiving.specs.declared.gather.Got.{Got}
 use Rattle.receiving.proofs.FillLaws.{Wanted, wanted-at}
 
-pub opens : (b p : List ℕ) (c : ℕ) → Fit b c → 6 ≤ length p → Opens b p
+pub opens : (b p : List ℕ) (c : ℕ) → RoomToGather b c → 6 ≤ length p → Opens b p
 opens b p c f h = record { room = f .room; header = h }
 
 pub header-there : (b p : List ℕ) → Opens b p → 6 ≤ length p

@@ -17,7 +17,7 @@ use Rattle.association.specs.Record.{strayState, overfull, badLength, clauses, 
 use Rattle.association.specs.Refusals.{recordRefusal}
 use Rattle.association.specs.Calls.{receiveRefusal}
 use Rattle.association.proofs.OrderLaws.{passed, receive-steps, receive-passed}
-use Rattle.receiving.specs.Gathering.{Fit}
+use Rattle.receiving.specs.Private.Gathering.{RoomToGather}
 
 -- ---- of alternatives none of which holds
 left-not : (b c : Bool) → (b || c) ≡ false → b ≡ false
@@ -65,7 +65,7 @@ pub ruleset receive-tests = (needs, receive-record, receive-short, receive-open)
 
 -- ---- what is open to it
 pub record Open (a : Assoc) (g o : List ℕ) : Type 0 where
-  pub fit : Fit g (a .gathered)
+  pub fit : RoomToGather g (a .gathered)
   pub ten : 10 ≤ length o
 
 pub opened : (a : Assoc) (g o : List ℕ) → receiveRefusal a g o ≡ 0 → Open a g o

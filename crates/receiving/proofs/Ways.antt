@@ -15,11 +15,11 @@ use Rattle.framing.proofs.Receive.{receive-dropped, receive-short, receive-long
 use Rattle.association.specs.declared.Assoc.{Assoc}
 use Rattle.association.specs.Record.{dropping}
 use Rattle.association.specs.Refusals.{refusedWith}
-use Rattle.association.specs.Events.{eventOf, invalid}
-use Rattle.association.specs.Deeds.{Input.whole, Input.long, peerAt, requestorAfter, entering, after}
+use Rattle.association.specs.Events.{eventOf, invalidPdu}
+use Rattle.association.specs.Performing.{Input.whole, Input.long, peerAt, requestorAfter, entering, after}
 use Rattle.association.specs.Machine.{Seen, upper, doing, onEvent}
 use Rattle.association.specs.Calls.{Call, call, withCount, lentOf, heard, receiveRefusal, receiveOf}
-use Rattle.receiving.specs.Steps.{quietOf, tellOf}
+use Rattle.receiving.specs.Private.Reactions.{quietOf, tellOf}
 
 -- ---- an event leaves nothing gathered, and does not look at what was
 entering-bare : (a : Assoc) → a .gathered ≡ 0 → withCount (entering a) 0 ≡ entering a
@@ -32,7 +32,7 @@ entering-bare a e = by (eqb (a .state) 1)
     by true = refl
     by false = λ i. withCount a (sym e i)
 
-long-bare : (a : Assoc) → withCount (onEvent invalid a long .next) 0 ≡ onEvent invalid a long .next
+long-bare : (a : Assoc) → withCount (onEvent invalidPdu a long .next) 0 ≡ onEvent invalidPdu a long .next
 unfolding onEvent doing after
 long-bare a = entering-bare _ refl
 
@@ -40,7 +40,7 @@ pdu-bare : (a : Assoc) (p : List ℕ) → withCount (onEvent (eventOf a p) a (wh
 unfolding onEvent doing after
 pdu-bare a p = entering-bare _ refl
 
-long-same : (a : Assoc) → onEvent invalid (withCount a 0) long ≡ onEvent invalid a long
+long-same : (a : Assoc) → onEvent invalidPdu (withCount a 0) long ≡ onEvent invalidPdu a long
 unfolding onEvent doing after requestorAfter
 long-same a = refl
 
@@ -86,9 +86,9 @@ module _ (a : Assoc) (g p o : List ℕ) where
       -- the sixth byte brings the invalid event
       pub way-long : frame 16384 (take (a .gathered) g ++ p) ≡ long
           → receiveOf a g p o
-          ≡ call (tellOf (onEvent invalid a long) (6 - a .gathered) 0) (put g (a .gathered) (take (6 - a .gathered) p)) (front o (onEvent invalid a long .sends))
+          ≡ call (tellOf (onEvent invalidPdu a long) (6 - a .gathered) 0) (put g (a .gathered) (take (6 - a .gathered) p)) (front o (onEvent invalidPdu a long .sends))
       way-long f =
-          went ∙ (ap heard (receive-long upper (lentOf a g o) p hears f) ∙ rw (long-same a) (told (onEvent invalid a long) (long-bare a) _ _ _))
+          went ∙ (ap heard (receive-long upper (lentOf a g o) p hears f) ∙ rw (long-same a) (told (onEvent invalidPdu a long) (long-bare a) _ _ _))
 
       -- the last byte of a PDU of n bytes brings its event
       abbrev left : ℕ → List ℕ

@@ -1,6 +1,6 @@
 // Gathers the bytes of a piece behind those gathered: the header up to its sixth byte, then the body up to its last.
 ghost use mathlib.Core.Path.{_≡_};
-ghost use Rattle.receiving.specs.Gathering.{wantOf, Fills, Filled, Cut, Fit, Opens, Gathered};
+ghost use Rattle.receiving.specs.Private.Gathering.{wantOf, Fills, Copied, Cut, RoomToGather, Opens, Gathered};
 
 // What the bytes gathered now begin with: no event yet, a length above the limit, a whole PDU.
 pub enum Head {
@@ -26,7 +26,7 @@ fn want(have: usize, need: usize, n: usize) -> usize
 // Copies the piece from a place on until `need` bytes are there, else to its end, and answers the place reached.
 fn fill(buf: &mut [u8], count: usize, from: usize, need: usize, piece: &[u8]) -> usize
     requires { ⌜ Fills (now buf) count from need (now piece) ⌝ }
-    ensures { λ r. ⌜ Filled (now (buf .entry)) count from need (now (piece .entry)) (now (buf .exit)) r ⌝ }
+    ensures { λ r. ⌜ Copied (now (buf .entry)) count from need (now (piece .entry)) (now (buf .exit)) r ⌝ }
 {
     let to = want(count, need, piece.len());
     octets::put(buf, count + from, &piece[from..to]);
@@ -50,7 +50,7 @@ fn line(have: usize, need: usize) -> usize
 // As `fill`, a long piece in two copies: the second begins at a line of the buffer, so that its stores are aligned, which takes more than a quarter off its time.
 fn fill_lines(buf: &mut [u8], count: usize, from: usize, need: usize, piece: &[u8]) -> usize
     requires { ⌜ Fills (now buf) count from need (now piece) ⌝ }
-    ensures { λ r. ⌜ Filled (now (buf .entry)) count from need (now (piece .entry)) (now (buf .exit)) r ⌝ }
+    ensures { λ r. ⌜ Copied (now (buf .entry)) count from need (now (piece .entry)) (now (buf .exit)) r ⌝ }
 {
     if piece.len() < 256 {
         return fill(buf, count, from, need, piece);
@@ -89,7 +89,7 @@ fn gather_new(buf: &mut [u8], piece: &[u8]) -> Got
 
 // Copies bytes of the piece, through the one that brings an event, else all.
 pub(crate) fn gather(buf: &mut [u8], count: usize, piece: &[u8]) -> Got
-    requires { ⌜ Fit (now buf) count ⌝ }
+    requires { ⌜ RoomToGather (now buf) count ⌝ }
     ensures { λ r. ⌜ Gathered (now (buf .entry)) count (now (piece .entry)) (now (buf .exit)) r ⌝ }
 {
     if count == 0 {

@@ -1,13 +1,13 @@
 // One call on a piece.
-use crate::deeds;
 use crate::gather;
 use crate::gather::Head;
+use crate::received;
 use association::Answer;
 use association::Assoc;
 use association::Told;
 ghost use mathlib.Core.Path.{_≡_};
 ghost use Rattle.association.specs.Calls.{call, receiveRefusal, receiveOf};
-ghost use Rattle.receiving.specs.Steps.{quietOf};
+ghost use Rattle.receiving.specs.Private.Reactions.{quietOf};
 
 fn receive_refusal(a: Assoc, gather: &[u8], out: &[u8]) -> u8
     ensures { λ r. ⌜ r ≡ receiveRefusal a (now (gather .entry)) (now (out .entry)) ⌝ }
@@ -57,10 +57,10 @@ pub fn receive(a: Assoc, gather: &mut [u8], piece: &[u8], out: &mut [u8]) -> Ans
     let head = got.head;
     match head {
         Head::Short => quiet(a, at + used, used),
-        Head::Long => deeds::do_long(a, used, out),
+        Head::Long => received::do_long(a, used, out),
         Head::Whole => {
             let n = at + used;
-            deeds::do_pdu(a, &gather[..n], used, out)
+            received::do_pdu(a, &gather[..n], used, out)
         }
     }
 }

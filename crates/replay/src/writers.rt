@@ -15,8 +15,8 @@ fn put(call: u8, line: &[u8], words: &[u64; 14], out: &mut [u8]) -> Sent {
     let one = byte(words, 9);
     let two = byte(words, 10);
     match call {
-        b'1' => associate::write_request(first, second, third, bytes(line, words, 12), out),
-        b'2' => associate::write_accept(first, second, third, out),
+        b'1' => writing_associate::write_request(first, second, third, bytes(line, words, 12), out),
+        b'2' => writing_associate::write_accept(first, second, third, out),
         b'3' => writing::write_reject(one, two, byte(words, 11), out),
         b'4' => writing::write_data(first, 0, out),
         b'5' => writing::write_release_request(out),

@@ -12,7 +12,7 @@ use borrow.Author.Tests.{eq-eqb, ne-eqb, eqb-true, eqb-false}
 use Rattle.laws.specs.Lists.{among}
 use Rattle.octets.specs.Put.{front, Placed}
 use Rattle.writing.specs.declared.Sent.{Sent}
-use Rattle.writing.specs.Form.{Form, refusalOf, Wrote}
+use Rattle.writing.specs.Form.{Form, formRefusal, Wrote}
 use Rattle.writing.specs.Ten.{tenOf, NONE}
 use Rattle.writing.proofs.FormLaws.{refusal-4, refusal-is, refused-kept, sent-count, out-is}
 use Rattle.writing.proofs.TenLaws.{ten-out, ten-count, own-short, own-fine}
@@ -21,12 +21,12 @@ use Rattle.association.specs.declared.Answer.{Answer}
 use Rattle.association.specs.declared.Brings.{Brings}
 use Rattle.association.specs.Refusals.{recordRefusal, refusedWith}
 use Rattle.association.specs.Events.{Local, Local.plain, numberOf, Sends, Sends.own, Sends.bad, Sends.given, plainSends, sendsOf}
-use Rattle.association.specs.Deeds.{Input, Input.bare, Input.contents, brings, after, sentBy, tenBy}
+use Rattle.association.specs.Performing.{Input, Input.bare, Input.contents, brings, after, sentBy, tenBy}
 use Rattle.association.specs.Machine.{Seen, doing, localCell, inputOf, formOf, onLocal}
 use Rattle.association.specs.Calls.{Call, call, unless, localOf}
 use Rattle.association.proofs.OrderLaws.{request-steps, local-steps}
 use Rattle.requests.specs.declared.Gate.{Gate}
-use Rattle.requests.specs.Gates.{gateOf, answeredOf, finishOf}
+use Rattle.requests.specs.Private.Gates.{gateOf, doneLocally, finishOf}
 
 -- ---- the gate
 module _ (a : Assoc) (g : List ℕ) (number num : ℕ) (e : num ≡ recordRefusal a g (a .gathered)) where
@@ -48,15 +48,15 @@ pub ruleset gate-laws = (needs, gate-refused, gate-blank, gate-act)
 -- ---- answers
 pub is-answered : (a : Assoc) (action sent : ℕ) (n : Assoc)
     → n ≡ after action a (record { accepts = false; «peer_max» = a .«peer_max»; deaf = a .deaf; gathered = a .gathered })
-    → _≡_ {A = Answer} (record { told = record { refusal = 0; action = action; used = 0; sent = sent; shown = 0 }; assoc = n }) (answeredOf a action sent)
-unfolding answeredOf
+    → _≡_ {A = Answer} (record { told = record { refusal = 0; action = action; used = 0; sent = sent; shown = 0 }; assoc = n }) (doneLocally a action sent)
+unfolding doneLocally
 is-answered a action sent n e = rw e
 
 pub finish-refused : (a : Assoc) (action : ℕ) (s : Sent) (r : Answer) → (s .refusal ≡ 0 → ⊥) → r ≡ refusedWith (s .refusal) a → r ≡ finishOf a action s
 unfolding finishOf
 finish-refused a action s r n e = rw (ne-eqb (s .refusal) 0 n) e
 
-pub finish-done : (a : Assoc) (action : ℕ) (s : Sent) (r : Answer) → s .refusal ≡ 0 → r ≡ answeredOf a action (s .count) → r ≡ finishOf a action s
+pub finish-done : (a : Assoc) (action : ℕ) (s : Sent) (r : Answer) → s .refusal ≡ 0 → r ≡ doneLocally a action (s .count) → r ≡ finishOf a action s
 unfolding finishOf
 finish-done a action s r z e = rw (eq-eqb (s .refusal) 0 z) e
 
@@ -110,29 +110,29 @@ module _ (a : Assoc) (g o : List ℕ) (e : Local) (number : ℕ) (k : Gate) (ek 
     same = ap (λ (n : ℕ). localCell n (a .state)) en ∙ sym (G .act)
 
     -- what is left to be tested is the form of what it sends
-    went : localOf a g o e ≡ unless (refusalOf (formOf (k .action) s) (length o)) a g o (doneWith a g o (k .action) number s)
+    went : localOf a g o e ≡ unless (formRefusal (formOf (k .action) s) (length o)) a g o (doneWith a g o (k .action) number s)
     unfolding localOf onLocal doneWith
     went = rw (local-steps a g o e, eq-eqb _ _ (G .clear), request-steps a e (length o), same, es, ne-eqb (k .action) 0 (λ z. G .filled (sym (G .act) ∙ z)), en)
 
 -- ---- the call once nothing refuses it, by what it wants sent
-own-done : (a : Assoc) (g o : List ℕ) (act number : ℕ) → doneWith a g o act number own ≡ call (answeredOf a act (length (tenOf (tenBy act false NONE)))) g (front o (tenOf (tenBy act false NONE)))
-unfolding doneWith doing answeredOf
+own-done : (a : Assoc) (g o : List ℕ) (act number : ℕ) → doneWith a g o act number own ≡ call (doneLocally a act (length (tenOf (tenBy act false NONE)))) g (front o (tenOf (tenBy act false NONE)))
+unfolding doneWith doing doneLocally
 own-done a g o act number = refl
 
-given-done : (a : Assoc) (g o : List ℕ) (act number : ℕ) (f : Form) → doneWith a g o act number (given f) ≡ call (answeredOf a act (length (f .pdu))) g (front o (f .pdu))
-unfolding doneWith doing answeredOf
+given-done : (a : Assoc) (g o : List ℕ) (act number : ℕ) (f : Form) → doneWith a g o act number (given f) ≡ call (doneLocally a act (length (f .pdu))) g (front o (f .pdu))
+unfolding doneWith doing doneLocally
 given-done a g o act number f = refl
 
 module _ (a : Assoc) (g o : List ℕ) (e : Local) (number : ℕ) (k : Gate) (ek : k ≡ gateOf a g number) (en : numberOf e ≡ number) (z : k .refusal ≡ 0) where
   -- with contents: the writer refuses, or has written
   pub finish-at : (f : Form) → sendsOf a e ≡ given f → (s : Sent) (o′ : List ℕ) (r : Answer) → Wrote f o s o′ → r ≡ finishOf a (k .action) s → call r g o′ ≡ localOf a g o e
   unfolding finishOf
-  finish-at f es s o′ r W er = by (eqb (refusalOf f (length o)) 0) refl
+  finish-at f es s o′ r W er = by (eqb (formRefusal f (length o)) 0) refl
     where
-      is : localOf a g o e ≡ unless (refusalOf f (length o)) a g o (call (answeredOf a (k .action) (length (f .pdu))) g (front o (f .pdu)))
+      is : localOf a g o e ≡ unless (formRefusal f (length o)) a g o (call (doneLocally a (k .action) (length (f .pdu))) g (front o (f .pdu)))
       is = went a g o e number k ek en z (given f) es ∙ rw (given-done a g o (k .action) number f)
 
-      by : (b : Bool) → eqb (refusalOf f (length o)) 0 ≡ b → call r g o′ ≡ localOf a g o e
+      by : (b : Bool) → eqb (formRefusal f (length o)) 0 ≡ b → call r g o′ ≡ localOf a g o e
       by true q =
           let c : s .refusal ≡ 0 = refusal-is f o s o′ W ∙ eqb-true _ _ q in
           rw (er, c, sent-count f o s o′ W c, out-is f o s o′ W c) (sym (is ∙ rw q))
@@ -151,13 +151,13 @@ module _ (a : Assoc) (g o : List ℕ) (number : ℕ) (k : Gate) (ek : k ≡ gate
 
   module _ (f : x ≡ false) (ten : ℕ) (et : ten ≡ tenBy (k .action) false NONE) (n : ℕ) (en : n ≡ length (tenOf ten)) where
     own-went : localOf a g o (plain number)
-        ≡ unless (refusalOf (record { good = true; most = 16384; pdu = tenOf ten }) (length o)) a g o (call (answeredOf a (k .action) (length (tenOf ten))) g (front o (tenOf ten)))
+        ≡ unless (formRefusal (record { good = true; most = 16384; pdu = tenOf ten }) (length o)) a g o (call (doneLocally a (k .action) (length (tenOf ten))) g (front o (tenOf ten)))
     own-went = went a g o (plain number) number k ek refl z own (sends own (rw f)) ∙ rw (own-done a g o (k .action) number, ← et)
 
     pub plain-short : (r : Answer) → length o < n → r ≡ refusedWith 2 a → call r g o ≡ localOf a g o (plain number)
     plain-short r h er = rw er (sym (own-went ∙ rw (own-short ten (length o) (omega arith))))
 
-    pub plain-done : (m : ℕ) (o′ : List ℕ) (r : Answer) → n ≤ length o → Placed o 0 (tenOf ten) m o′ → r ≡ answeredOf a (k .action) m → call r g o′ ≡ localOf a g o (plain number)
+    pub plain-done : (m : ℕ) (o′ : List ℕ) (r : Answer) → n ≤ length o → Placed o 0 (tenOf ten) m o′ → r ≡ doneLocally a (k .action) m → call r g o′ ≡ localOf a g o (plain number)
     plain-done m o′ r h P er =
         let fits : length (tenOf ten) ≤ length o = omega arith in
         rw (er, ten-count ten o o′ m P fits, ten-out ten o o′ m P fits) (sym (own-went ∙ rw (own-fine ten (length o) fits)))

@@ -10,7 +10,7 @@ ghost use Rattle.laws.specs.Lists.{among};
 ghost use Rattle.writing.specs.Fields.{rqOf, acOf, rejectOf, itemsOf};
 ghost use Rattle.association.specs.Events.{Local.plain, Local.confirm, Local.accept, Local.reject, Local.send};
 ghost use Rattle.association.specs.Calls.{call, localOf};
-ghost use Rattle.requests.specs.Gates.{gateOf, answeredOf, finishOf};
+ghost use Rattle.requests.specs.Private.Gates.{gateOf, doneLocally, finishOf};
 
 // A local event's refusal before its contents are looked at, or its action.
 pub struct Gate {
@@ -36,7 +36,7 @@ fn gated(a: Assoc, gather: &[u8], number: u8) -> Gate
 }
 
 fn answered(a: Assoc, action: u8, sent: usize) -> Answer
-    ensures { λ r. ⌜ r ≡ answeredOf a action sent ⌝ }
+    ensures { λ r. ⌜ r ≡ doneLocally a action sent ⌝ }
 {
     let b = Brings {
         accepts: false,
@@ -123,7 +123,7 @@ pub fn confirm(
     if refusal != 0 {
         return association::refused(refusal, a);
     }
-    let sent = associate::write_request(called, calling, application, sheet, out);
+    let sent = writing_associate::write_request(called, calling, application, sheet, out);
     finish(a, action, sent)
 }
 
@@ -144,7 +144,7 @@ pub fn accept(
     if refusal != 0 {
         return association::refused(refusal, a);
     }
-    let sent = associate::write_accept(echoed, application, sheet, out);
+    let sent = writing_associate::write_accept(echoed, application, sheet, out);
     finish(a, action, sent)
 }
 

@@ -16,10 +16,10 @@ use Rattle.laws.proofs.Places.{all-passes, all-fails, all-end, part-tail}
 use Rattle.laws.proofs.Same.{same-equal}
 use Rattle.names.specs.Name.{nameOk}
 use Rattle.octets.specs.Octets.{odd}
-use Rattle.sheets.specs.Contexts.{Context, contextId, answeredId, contextOk, transferOk, answeredOk, contextsOk, allAnsweredOk}
-use Rattle.sheets.specs.Sheet.{recordId, abstractOf, transferOf, recordsOf, goesOn, firstTransfers, others, start, runs, contextsIn, answeredOf, answersIn, zero?, fieldOk, fieldsOk, proposes, proposalRecord, answers, proposalOk, answersOk}
+use Rattle.sheets.specs.Contexts.{Context, contextId, answeredId, contextOk, transferNameOk, answeredOk, contextsOk, allAnsweredOk}
+use Rattle.sheets.specs.Sheet.{recordId, abstractOf, transferOf, recordsOf, goesOn, firstTransfers, others, start, sheetRuns, contextsIn, answeredOf, answersIn, zero?, fieldOk, fieldsOk, proposes, proposalRecord, answers, proposalOk, answersOk}
 use Rattle.sheets.specs.Record.{recordAt}
-use Rattle.sheets.specs.Parts.{answerRecord, recordOk, idsIn}
+use Rattle.sheets.specs.Private.OneRecord.{answerRecord, recordOk, idsIn}
 use Rattle.sheets.proofs.RunLaws.{records-cons, records-none, record-here, contexts-here, contexts-none, no-run}
 
 -- ---- `zeros`
@@ -91,8 +91,8 @@ module _ (r : List ℕ) where
 pub ruleset proposal-record-laws = (needs, proposal-result, proposal-fields, proposal-even, proposal-abstract, proposal-rest)
 
 -- ---- one record of an answer
-pub transfer-test : (result : ℕ) (x : List ℕ) (b : Bool) → b ≡ nameOk x → b ≡ transferOk result x
-unfolding transferOk
+pub transfer-test : (result : ℕ) (x : List ℕ) (b : Bool) → b ≡ nameOk x → b ≡ transferNameOk result x
+unfolding transferNameOk
 transfer-test result x b e = e
 
 pub ruleset transfer-laws = (needs, transfer-test)
@@ -116,7 +116,7 @@ module _ (r : List ℕ) where
       unfolding answerRecord answers answeredOk answeredOf
       answer-result o h = simp (eq-eqb _ _ z, sym q ∙ not-false f t, eq-eqb _ _ o, lt-leb _ _ h)
 
-      pub answer-rest : (x : List ℕ) (d : Bool) → getD r 0 0 % 2 ≡ 1 → getD r 1 0 ≤ 4 → x ≡ transferOf r → d ≡ transferOk (getD r 1 0) x → d ≡ answerRecord r
+      pub answer-rest : (x : List ℕ) (d : Bool) → getD r 0 0 % 2 ≡ 1 → getD r 1 0 ≤ 4 → x ≡ transferOf r → d ≡ transferNameOk (getD r 1 0) x → d ≡ answerRecord r
       unfolding answerRecord answers answeredOk answeredOf
       answer-rest x d o h g w = w ∙ (rw g (simp (eq-eqb _ _ z, sym q ∙ not-false f t, eq-eqb _ _ o, le-leb _ _ h)))
 
@@ -171,10 +171,10 @@ start-some r cs k = go cs (goesOn r cs) k
     go [] true k = refl
     go (c ∷ cs) true k = rw (le-leb 1 (length (transferOf r ∷ c .transfers)) (omega arith)) (right-of (some c) _ k)
 
-runs-some : (rs : List (List ℕ)) → all some (runs rs) ≡ true
-unfolding runs
+runs-some : (rs : List (List ℕ)) → all some (sheetRuns rs) ≡ true
+unfolding sheetRuns
 runs-some [] = refl
-runs-some (r ∷ rs) = start-some r (runs rs) (runs-some rs)
+runs-some (r ∷ rs) = start-some r (sheetRuns rs) (runs-some rs)
 
 -- what a record by itself makes good
 abbrev alone : List ℕ → Bool
@@ -207,10 +207,10 @@ start-good r cs k = go cs (goesOn r cs) refl k
         rw (le-leb 1 (length (transferOf r ∷ c .transfers)) (omega arith), i, a)
         (join (odd (c .id)) (nameOk (c .abstr)) (nameOk (transferOf r)) (leb 1 (length (c .transfers))) (all nameOk (c .transfers)) (all contextOk cs) (left-of (some c) _ k))
 
-pub records-proposal : (rs : List (List ℕ)) → all (recordOk false) rs ≡ (all proposes rs && all contextOk (runs rs))
-unfolding runs recordOk proposalRecord
+pub records-proposal : (rs : List (List ℕ)) → all (recordOk false) rs ≡ (all proposes rs && all contextOk (sheetRuns rs))
+unfolding sheetRuns recordOk proposalRecord
 records-proposal [] = refl
-records-proposal (r ∷ rs) = rw (records-proposal rs, start-good r (runs rs) (runs-some rs)) (across (proposes r) (alone r) (all proposes rs) (all contextOk (runs rs)))
+records-proposal (r ∷ rs) = rw (records-proposal rs, start-good r (sheetRuns rs) (runs-some rs)) (across (proposes r) (alone r) (all proposes rs) (all contextOk (sheetRuns rs)))
 
 pub records-answer : (rs : List (List ℕ)) → all (recordOk true) rs ≡ (all answers rs && all answeredOk (map answeredOf rs))
 unfolding recordOk answerRecord

@@ -15,14 +15,14 @@ use Rattle.laws.proofs.Same.{same-equal, same-self}
 use Rattle.names.specs.Name.{nameOk}
 use Rattle.names.proofs.NameLaws.{name-short}
 use Rattle.octets.specs.Octets.{odd}
-use Rattle.sheets.specs.Contexts.{Context, Answered, contextId, answeredId, contextOk, transferOk, answeredOk, contextsOk, allAnsweredOk}
-use Rattle.sheets.specs.Sheet.{field, recordBytes, contextRecords, sheetOf, answerSheetOf, recordsOf, recordId, abstractOf, transferOf, goesOn, firstTransfers, others, start, runs, contextsIn, answeredOf, answersIn, zero?, fieldOk, fieldsOk, proposes, answers, proposalOk, answersOk}
+use Rattle.sheets.specs.Contexts.{Context, Answered, contextId, answeredId, contextOk, transferNameOk, answeredOk, contextsOk, allAnsweredOk}
+use Rattle.sheets.specs.Sheet.{field, recordBytes, contextRecords, sheetOf, answerSheetOf, recordsOf, recordId, abstractOf, transferOf, goesOn, firstTransfers, others, start, sheetRuns, contextsIn, answeredOf, answersIn, zero?, fieldOk, fieldsOk, proposes, answers, proposalOk, answersOk}
 use Rattle.sheets.proofs.RecordLaws.{cap-low, field-length, record-length}
 use Rattle.sheets.proofs.RunLaws.{records-cons, no-run}
 
 -- a transfer name fits its field, for each result
-pub transfer-fits : (result : ℕ) (x : List ℕ) → transferOk result x ≡ true → length x ≤ 64
-unfolding transferOk
+pub transfer-fits : (result : ℕ) (x : List ℕ) → transferNameOk result x ≡ true → length x ≤ 64
+unfolding transferNameOk
 transfer-fits result x e = name-short x e
 
 -- ---- a record whose unused bytes are zero is the bytes of what it says
@@ -67,8 +67,8 @@ module _ (r : List ℕ) (l : length r ≡ 132) (k : fieldsOk r ≡ true) where
   abstract-ok : fieldOk (getD r 2 0) (take 64 (drop 4 r)) ≡ true
   abstract-ok = left-of _ _ both-fields
 
-  transfer-ok : fieldOk (getD r 3 0) (drop 68 r) ≡ true
-  transfer-ok = right-of (fieldOk (getD r 2 0) (take 64 (drop 4 r))) _ both-fields
+  transfer-name-ok : fieldOk (getD r 3 0) (drop 68 r) ≡ true
+  transfer-name-ok = right-of (fieldOk (getD r 2 0) (take 64 (drop 4 r))) _ both-fields
 
   abstract-long : length (take 64 (drop 4 r)) ≡ 64
   abstract-long = length-take-le 64 (drop 4 r) (omega (arith, length-drop 4 r))
@@ -84,15 +84,15 @@ module _ (r : List ℕ) (l : length r ≡ 132) (k : fieldsOk r ≡ true) where
 
   transfer-is : transferOf r ≡ take (getD r 3 0) (drop 68 r)
   unfolding transferOf
-  transfer-is = let s = field-small (getD r 3 0) (drop 68 r) transfer-long transfer-ok in rw (← cap-low (getD r 3 0) s)
+  transfer-is = let s = field-small (getD r 3 0) (drop 68 r) transfer-long transfer-name-ok in rw (← cap-low (getD r 3 0) s)
 
   pub record-back : recordBytes (recordId r) (getD r 1 0) (abstractOf r) (transferOf r) ≡ r
   unfolding recordBytes
   record-back =
       let a : field (abstractOf r) ≡ take 64 (drop 4 r) = ap field abstract-is ∙ field-back (getD r 2 0) (take 64 (drop 4 r)) abstract-long abstract-ok in
-      let t : field (transferOf r) ≡ drop 68 r = ap field transfer-is ∙ field-back (getD r 3 0) (drop 68 r) transfer-long transfer-ok in
+      let t : field (transferOf r) ≡ drop 68 r = ap field transfer-is ∙ field-back (getD r 3 0) (drop 68 r) transfer-long transfer-name-ok in
       let la : length (abstractOf r) ≡ getD r 2 0 = ap length abstract-is ∙ used-length (getD r 2 0) (take 64 (drop 4 r)) abstract-long abstract-ok in
-      let lt : length (transferOf r) ≡ getD r 3 0 = ap length transfer-is ∙ used-length (getD r 3 0) (drop 68 r) transfer-long transfer-ok in
+      let lt : length (transferOf r) ≡ getD r 3 0 = ap length transfer-is ∙ used-length (getD r 3 0) (drop 68 r) transfer-long transfer-name-ok in
       let j : field (abstractOf r) ++ field (transferOf r) ≡ drop 4 r
       = ap (λ (m : List ℕ). m ++ field (transferOf r)) a ∙ (ap (λ (m : List ℕ). take 64 (drop 4 r) ++ m) (t ∙ sym (drop-drop 64 4 r)) ∙ take-append-drop 64 (drop 4 r)) in
       let w : recordBytes (recordId r) (getD r 1 0) (abstractOf r) (transferOf r) ≡ getD r 0 0 ∷ getD r 1 0 ∷ getD r 2 0 ∷ getD r 3 0 ∷ drop 4 r = λ i. getD r 0 0 ∷ getD r 1 0 ∷ la i ∷ lt i ∷ j i in
@@ -128,12 +128,12 @@ answers-back-one r l k =
     ap (λ (a : List ℕ). recordBytes (recordId r) (getD r 1 0) a (transferOf r)) (sym n) ∙ record-back r l (right-of (eqb (getD r 2 0) 0) _ k)
 
 -- n records of 132 bytes, all of them
-runs-back : (n : ℕ) (s : List ℕ) → length s ≡ 132 * n → all proposes (records 132 n s) ≡ true → sheetOf (runs (records 132 n s)) ≡ s
-unfolding runs sheetOf
+runs-back : (n : ℕ) (s : List ℕ) → length s ≡ 132 * n → all proposes (records 132 n s) ≡ true → sheetOf (sheetRuns (records 132 n s)) ≡ s
+unfolding sheetRuns sheetOf
 runs-back zero [] l k = refl
 runs-back zero (x ∷ s) l k = absurd (omega arith)
 runs-back (suc n) s l k =
-    start-back (take 132 s) (runs (records 132 n (drop 132 s)))
+    start-back (take 132 s) (sheetRuns (records 132 n (drop 132 s)))
     ∙ ((λ i. proposes-back (take 132 s) (length-take-le 132 s (omega arith)) (left-of _ _ k) i ++ runs-back n (drop 132 s) (omega (arith, length-drop 132 s)) (right-of (proposes (take 132 s)) _ k) i)
     ∙ take-append-drop 132 s)
 
@@ -219,7 +219,7 @@ record Sheeted (s : List ℕ) (cs : List Context) : Type 0 where
   back : contextsIn s ≡ cs
 
 sheeted-row : (id : ℕ) (a x s : List ℕ) (cs : List Context) → length a ≤ 64 → length x ≤ 64 → Sheeted s cs → Sheeted (recordBytes id 0 a x ++ s) (start (recordBytes id 0 a x) cs)
-unfolding contextsIn runs proposes recordBytes
+unfolding contextsIn sheetRuns proposes recordBytes
 sheeted-row id a x s cs h l w =
     let m = record-length id 0 a x h l in
     let f = records-front (recordBytes id 0 a x) s m in
@@ -228,7 +228,7 @@ sheeted-row id a x s cs h l w =
     record {
       whole = omega arith;
       form = rw f (both-of _ _ (both-of (eqb (getD (recordBytes id 0 a x) 1 0) 0) _ result-zero (fields-good id 0 a x h l)) (w .form));
-      back = ap runs f ∙ ap (start (recordBytes id 0 a x)) (w .back);
+      back = ap sheetRuns f ∙ ap (start (recordBytes id 0 a x)) (w .back);
     }
   where
     result-zero : eqb (getD (recordBytes id 0 a x) 1 0) 0 ≡ true
@@ -283,7 +283,7 @@ sheeted-context id a [] s cs h p k n w = absurd (held false p)
 sheeted-context id a (x ∷ xs) s cs h p k n w = sheeted-run id a x xs s cs h k n w
 
 sheeted : (cs : List Context) → all contextOk cs ≡ true → distinct (map contextId cs) ≡ true → Sheeted (sheetOf cs) cs
-unfolding sheetOf contextOk distinct contextsIn runs recordsOf
+unfolding sheetOf contextOk distinct contextsIn sheetRuns recordsOf
 sheeted [] k d = record { whole = refl; form = refl; back = refl }
 sheeted (c ∷ cs) k d =
     let o : (odd (c .id) && (nameOk (c .abstr) && (leb 1 (length (c .transfers)) && all nameOk (c .transfers)))) ≡ true = left-of _ _ k in
@@ -339,7 +339,7 @@ answering : (cs : List Answered) → all answeredOk cs ≡ true → Answering (a
 unfolding answerSheetOf answeredOk answersIn recordsOf
 answering [] k = record { whole = refl; form = refl; back = refl }
 answering (c ∷ cs) k =
-    let o : (odd (c .id) && (leb (c .result) 4 && transferOk (c .result) (c .transfer))) ≡ true = left-of _ _ k in
+    let o : (odd (c .id) && (leb (c .result) 4 && transferNameOk (c .result) (c .transfer))) ≡ true = left-of _ _ k in
     let l = transfer-fits (c .result) (c .transfer) (right-of (leb (c .result) 4) _ (right-of (odd (c .id)) _ o)) in
     answering-row c (answerSheetOf cs) cs l (answering cs (right-of (answeredOk c) _ k))
 

@@ -13,9 +13,9 @@ use borrow.Author.Tests.{eq-eqb, ne-eqb, leb-true, leb-false, eqb-true, not-true
 use Rattle.laws.specs.Lists.{sameBytes, among, distinct}
 use Rattle.laws.proofs.Booleans.{left-of, held}
 use Rattle.sheets.specs.Contexts.{Context, contextId}
-use Rattle.sheets.specs.Sheet.{recordId, abstractOf, recordsOf, goesOn, others, start, runs, contextsIn, answeredOf, answersIn}
+use Rattle.sheets.specs.Sheet.{recordId, abstractOf, recordsOf, goesOn, others, start, sheetRuns, contextsIn, answeredOf, answersIn}
 use Rattle.sheets.specs.Record.{recordAt, goesOnAt}
-use Rattle.sheets.specs.Parts.{idsIn}
+use Rattle.sheets.specs.Private.OneRecord.{idsIn}
 use Rattle.sheets.proofs.RecordLaws.{abstract-here}
 
 -- ---- the records of a sheet, from a place on
@@ -33,11 +33,11 @@ pub record-here : (s : List ℕ) (at : ℕ) → at + 132 ≤ length s → record
 record-here s at h = rw (records-cons (drop at s) (omega (arith, length-drop at s)), drop-drop)
 
 pub contexts-here : (s : List ℕ) (at : ℕ) → at + 132 ≤ length s → contextsIn (drop at s) ≡ start (recordAt s at) (contextsIn (drop (at + 132) s))
-unfolding contextsIn runs
+unfolding contextsIn sheetRuns
 contexts-here s at h = rw (record-here s at h)
 
 pub contexts-none : (s : List ℕ) (at : ℕ) → length s < at + 132 → contextsIn (drop at s) ≡ []
-unfolding contextsIn runs
+unfolding contextsIn sheetRuns
 contexts-none s at h = rw (records-none (drop at s) (omega (arith, length-drop at s)))
 
 pub answers-here : (s : List ℕ) (at : ℕ) → at + 132 ≤ length s → answersIn (drop at s) ≡ answeredOf (recordAt s at) ∷ answersIn (drop (at + 132) s)
@@ -89,10 +89,10 @@ among-start x r cs = go cs (goesOn r cs) refl
     go (c ∷ cs) true e = rw (← same-id r c cs e) (sym (or-twice (eqb x (recordId r)) (among x (map contextId cs))))
 
 -- the IDs of the contexts are those of the records
-pub among-runs : (x : ℕ) (rs : List (List ℕ)) → among x (map contextId (runs rs)) ≡ among x (map recordId rs)
-unfolding runs among
+pub among-runs : (x : ℕ) (rs : List (List ℕ)) → among x (map contextId (sheetRuns rs)) ≡ among x (map recordId rs)
+unfolding sheetRuns among
 among-runs x [] = refl
-among-runs x (r ∷ rs) = among-start x r (runs rs) ∙ rw (among-runs x rs)
+among-runs x (r ∷ rs) = among-start x r (sheetRuns rs) ∙ rw (among-runs x rs)
 
 pub among-sheet : (x : ℕ) (s : List ℕ) → among x (idsIn s) ≡ among x (map contextId (contextsIn s))
 unfolding idsIn contextsIn

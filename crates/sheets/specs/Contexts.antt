@@ -31,12 +31,12 @@ unfoldable pub contextOk : Context → Bool
 contextOk c = odd (c .id) && (nameOk (c .abstr) && (leb 1 (length (c .transfers)) && all nameOk (c .transfers)))
 
 -- "exactly one 40H with a name (for each result)"
-unfoldable pub transferOk : ℕ → List ℕ → Bool
-transferOk result x = nameOk x
+unfoldable pub transferNameOk : ℕ → List ℕ → Bool
+transferNameOk result x = nameOk x
 
 -- "21H: ID odd, .., result 0 to 4, .., exactly one 40H with a name (for each result)."
 unfoldable pub answeredOk : Answered → Bool
-answeredOk c = odd (c .id) && (leb (c .result) 4 && transferOk (c .result) (c .transfer))
+answeredOk c = odd (c .id) && (leb (c .result) 4 && transferNameOk (c .result) (c .transfer))
 
 -- "one or more contexts"; "An ID that comes twice makes the PDU invalid."
 unfoldable pub contextsOk : List Context → Bool

@@ -1,4 +1,4 @@
 pub mod Contexts
 pub mod Sheet
 pub mod Record
-pub mod Parts
+pub mod Private

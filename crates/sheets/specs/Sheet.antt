@@ -71,12 +71,12 @@ start r cs =
     ∷ cond (goesOn r cs) (others cs) cs
 
 -- "a run of records with equal ID and abstract name, one per transfer syntax"
-unfoldable pub runs : List (List ℕ) → List Context
-runs [] = []
-runs (r ∷ rs) = start r (runs rs)
+unfoldable pub sheetRuns : List (List ℕ) → List Context
+sheetRuns [] = []
+sheetRuns (r ∷ rs) = start r (sheetRuns rs)
 
 unfoldable pub contextsIn : List ℕ → List Context
-contextsIn s = runs (recordsOf s)
+contextsIn s = sheetRuns (recordsOf s)
 
 unfoldable pub answeredOf : List ℕ → Answered
 answeredOf r = record { id = recordId r; result = getD r 1 0; transfer = transferOf r }

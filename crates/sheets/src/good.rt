@@ -3,9 +3,9 @@ ghost use mathlib.Core.Path.{_≡_};
 ghost use Prim.Native.Nat.{_%_};
 ghost use lib.ListN.{length};
 ghost use Rattle.laws.specs.Lists.{all};
-ghost use Rattle.sheets.specs.Contexts.{transferOk};
+ghost use Rattle.sheets.specs.Contexts.{transferNameOk};
 ghost use Rattle.sheets.specs.Sheet.{recordsOf, zero?, fieldOk, fieldsOk, proposalRecord, proposalOk, answersOk};
-ghost use Rattle.sheets.specs.Parts.{answerRecord, recordOk};
+ghost use Rattle.sheets.specs.Private.OneRecord.{answerRecord, recordOk};
 use crate::ids::ids_differ;
 use crate::ids::runs_differ;
 use crate::record::abstract_of;
@@ -67,8 +67,8 @@ fn proposal_record(r: &[u8]) -> bool
 }
 
 // The transfer name that goes with a result.
-fn transfer_ok(result: u8, x: &[u8]) -> bool
-    ensures { λ b. ⌜ b ≡ transferOk result (now (x .entry)) ⌝ }
+fn transfer_name_ok(result: u8, x: &[u8]) -> bool
+    ensures { λ b. ⌜ b ≡ transferNameOk result (now (x .entry)) ⌝ }
 {
     names::name_ok(x)
 }
@@ -89,7 +89,7 @@ fn answer_record(r: &[u8]) -> bool
     if 4 < r[1] {
         return false;
     }
-    transfer_ok(r[1], transfer_of(r))
+    transfer_name_ok(r[1], transfer_of(r))
 }
 
 // Whether the record may stand in an answer, or in a proposal.

@@ -6,7 +6,7 @@ ghost use lib.ListN.{length, drop};
 ghost use Rattle.laws.specs.Lists.{among, distinct};
 ghost use Rattle.sheets.specs.Contexts.{contextId};
 ghost use Rattle.sheets.specs.Sheet.{contextsIn};
-ghost use Rattle.sheets.specs.Parts.{idsIn};
+ghost use Rattle.sheets.specs.Private.OneRecord.{idsIn};
 use crate::record::goes_on;
 
 // Whether a record from a place on has this ID.

@@ -14,7 +14,7 @@ use Rattle.laws.proofs.Booleans.{T-left, T-right}
 use Rattle.laws.proofs.Below.{allBelow, below}
 use Rattle.table.specs.Actions.{Does, Timer, actions, doesOf, nextOf, showsOf, artimOf, runsAfter}
 use Rattle.table.specs.Actions.{Timer.starts, Timer.stops, Timer.stays}
-use Rattle.table.specs.Columns.{number, timerOf, shownOf}
+use Rattle.table.specs.Private.Columns.{number, timerOf, shownOf}
 
 -- the columns of the 28 actions, where AE-6 rejects and AR-8 is the acceptor's
 abbrev column : (Does → ℕ) → List ℕ

@@ -1,4 +1,5 @@
-pub mod Names
+pub mod ActionNames
+pub mod EventNames
 pub mod Actions
 pub mod Table
-pub mod Columns
+pub mod Private

@@ -4,10 +4,10 @@ use mathlib.Core.Bool.{Bool}
 use mathlib.Core.List.{List, [], _∷_}
 use lib.ListN.{getD}
 use Rattle.laws.specs.Lists.{among}
-use Rattle.table.specs.Names.{····}
-use Rattle.table.specs.Names.{AE-1, AE-2, AE-3, AE-4, AE-5, AE-6, AE-7, AE-8, DT-1, DT-2}
-use Rattle.table.specs.Names.{AR-1, AR-2, AR-3, AR-4, AR-5, AR-6, AR-7, AR-8, AR-9, AR-10}
-use Rattle.table.specs.Names.{AA-1, AA-2, AA-3, AA-4, AA-5, AA-6, AA-7, AA-8}
+use Rattle.table.specs.ActionNames.{····}
+use Rattle.table.specs.ActionNames.{AE-1, AE-2, AE-3, AE-4, AE-5, AE-6, AE-7, AE-8, DT-1, DT-2}
+use Rattle.table.specs.ActionNames.{AR-1, AR-2, AR-3, AR-4, AR-5, AR-6, AR-7, AR-8, AR-9, AR-10}
+use Rattle.table.specs.ActionNames.{AA-1, AA-2, AA-3, AA-4, AA-5, AA-6, AA-7, AA-8}
 
 -- a row; its place 0 is no state's
 abbrev row : ℕ → ℕ → ℕ → ℕ → ℕ → ℕ → ℕ → ℕ → ℕ → ℕ → ℕ → ℕ → ℕ → List ℕ

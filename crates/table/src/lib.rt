@@ -1,10 +1,61 @@
 // Table 9-10 of PS3.8 and the actions of Tables 9-6 to 9-9, as numbers.
+mod actions;
+mod events;
+
+pub use actions::AA_1;
+pub use actions::AA_2;
+pub use actions::AA_3;
+pub use actions::AA_4;
+pub use actions::AA_5;
+pub use actions::AA_6;
+pub use actions::AA_7;
+pub use actions::AA_8;
+pub use actions::AE_1;
+pub use actions::AE_2;
+pub use actions::AE_3;
+pub use actions::AE_4;
+pub use actions::AE_5;
+pub use actions::AE_6;
+pub use actions::AE_7;
+pub use actions::AE_8;
+pub use actions::AR_1;
+pub use actions::AR_2;
+pub use actions::AR_3;
+pub use actions::AR_4;
+pub use actions::AR_5;
+pub use actions::AR_6;
+pub use actions::AR_7;
+pub use actions::AR_8;
+pub use actions::AR_9;
+pub use actions::AR_10;
+pub use actions::DT_1;
+pub use actions::DT_2;
+pub use actions::NO_ACTION;
+pub use events::ABORT_RECEIVED;
+pub use events::ABORT_REQUEST;
+pub use events::AC_RECEIVED;
+pub use events::ACCEPT_RESPONSE;
+pub use events::ARTIM_EXPIRED;
+pub use events::ASSOCIATE_REQUEST;
+pub use events::DATA_RECEIVED;
+pub use events::DATA_REQUEST;
+pub use events::INVALID_RECEIVED;
+pub use events::REJECT_RESPONSE;
+pub use events::RELEASE_REQUEST;
+pub use events::RELEASE_RESPONSE;
+pub use events::RELEASE_RP_RECEIVED;
+pub use events::RELEASE_RQ_RECEIVED;
+pub use events::RJ_RECEIVED;
+pub use events::RQ_RECEIVED;
+pub use events::TRANSPORT_CLOSED;
+pub use events::TRANSPORT_CONFIRM;
+pub use events::TRANSPORT_INDICATION;
 ghost use mathlib.Core.Path.{_≡_};
 ghost use Prim.Native.Nat.{_+_, _-_, _*_, _≤_, _<_};
 ghost use mathlib.Core.Bool.{false};
 ghost use Rattle.table.specs.Actions.{nextOf, showsOf, artimOf};
 ghost use Rattle.table.specs.Table.{cellOf, isReceived};
-ghost use Rattle.table.specs.Columns.{timerOf, shownOf};
+ghost use Rattle.table.specs.Private.Columns.{timerOf, shownOf};
 
 // The actions' numbers (0a DT-2, 14 AR-10, 15 to 1c AA-1 to AA-8): a line to an event, 1 to 19, of states 1 to 13.
 const CELLS: [u8; 247] = *b"\

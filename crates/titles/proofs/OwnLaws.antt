@@ -12,7 +12,7 @@ use borrow.Author.Tests.{eq-eqb, ne-eqb, le-leb, lt-leb, not-true, not-false}
 use Rattle.laws.specs.Lists.{all, any, records}
 use Rattle.laws.proofs.Records.{records-step, records-over}
 use Rattle.titles.specs.Title.{titleOk, titlesEqual}
-use Rattle.titles.specs.Own.{titles, listOk, refusalOf, valueOf, Checked, refusal, value}
+use Rattle.titles.specs.Own.{titles, listOk, titleRefusal, titleValue, Checked, refusal, value}
 use Rattle.titles.specs.declared.own.Known.{Known}
 use Rattle.titles.specs.declared.own.Known.the-variants.{Yes, No, Refused}
 
@@ -61,8 +61,8 @@ module _ (p : List ℕ → Bool) (l : List ℕ) (n j : ℕ) (v : any p (records 
 pub ruleset any-laws = (needs, any-holds, any-next, any-stop, any-end)
 
 -- ---- the answer
-refused-so : (l t : List ℕ) → refusalOf l t ≡ 4 → Checked l t 4 0
-unfolding valueOf
+refused-so : (l t : List ℕ) → titleRefusal l t ≡ 4 → Checked l t 4 0
+unfolding titleValue
 refused-so l t e = record { refused = sym e; answer = simp e }
 
 either : (b : Bool) → _≡_ {A = ℕ} (cond b 4 4) 4
@@ -70,24 +70,24 @@ either true = refl
 either false = refl
 
 pub known-other : (l t : List ℕ) → (length t ≡ 16 → ⊥) → Checked l t 4 0
-unfolding refusalOf
+unfolding titleRefusal
 known-other l t n = refused-so l t (simp (ne-eqb _ _ n) (either (not (listOk l))))
 
 pub known-bad : (l t : List ℕ) (b : Bool) → b ≡ listOk l → not b ≡ true → Checked l t 4 0
-unfolding refusalOf
+unfolding titleRefusal
 known-bad l t b e f = refused-so l t (simp (sym e ∙ not-true b f))
 
 module _ (l t : List ℕ) (b d : Bool) (e : b ≡ listOk l) (f : not b ≡ false) (g : d ≡ any (titlesEqual t) (titles l)) (h : length t ≡ 16) where
-  none : refusalOf l t ≡ 0
-  unfolding refusalOf
+  none : titleRefusal l t ≡ 0
+  unfolding titleRefusal
   none = simp (eq-eqb _ _ h, sym e ∙ not-false b f)
 
   pub known-yes : d ≡ true → Checked l t 0 1
-  unfolding valueOf
+  unfolding titleValue
   known-yes q = record { refused = sym none; answer = simp (none, sym g ∙ q) }
 
   pub known-no : d ≡ false → Checked l t 0 0
-  unfolding valueOf
+  unfolding titleValue
   known-no q = record { refused = sym none; answer = simp (none, sym g ∙ q) }
 
 pub ruleset known-laws = (needs, known-other, known-bad, known-yes, known-no)

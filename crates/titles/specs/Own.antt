@@ -19,17 +19,17 @@ titles l = records 16 (length l / 16) l
 unfoldable pub listOk : List ℕ → Bool
 listOk l = eqb (length l % 16) 0 && leb (length l) 128 && all titleOk (titles l)
 
-unfoldable pub refusalOf : List ℕ → List ℕ → ℕ
-refusalOf own sought = firstDue ((not (listOk own), 4) ∷ (not (eqb (length sought) 16), 4) ∷ [])
+unfoldable pub titleRefusal : List ℕ → List ℕ → ℕ
+titleRefusal own sought = firstDue ((not (listOk own), 4) ∷ (not (eqb (length sought) 16), 4) ∷ [])
 
 -- where nothing is refused: 1 where the title is among ours, else 0
-unfoldable pub valueOf : List ℕ → List ℕ → ℕ
-valueOf own sought = cond (eqb (refusalOf own sought) 0 && any (titlesEqual sought) (titles own)) 1 0
+unfoldable pub titleValue : List ℕ → List ℕ → ℕ
+titleValue own sought = cond (eqb (titleRefusal own sought) 0 && any (titlesEqual sought) (titles own)) 1 0
 
 -- an answer in the paper's numbers
 pub record Checked (own sought : List ℕ) (r v : ℕ) : Type 0 where
-  pub refused : r ≡ refusalOf own sought
-  pub answer : v ≡ valueOf own sought
+  pub refused : r ≡ titleRefusal own sought
+  pub answer : v ≡ titleValue own sought
 
 -- the paper's number of each case: the refusal, 0 for none
 abbrev pub refusal : Known → ℕ

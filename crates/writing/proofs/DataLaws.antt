@@ -13,7 +13,7 @@ use Rattle.pdvs.specs.Data.{pdvsOk}
 use Rattle.writing.specs.Fields.{itemsOf, itemsGood}
 use Rattle.writing.specs.Wire.{pduBytes}
 use Rattle.writing.specs.Form.{Wrote, mostOf, dataForm}
-use Rattle.writing.specs.Inner.{Put}
+use Rattle.writing.specs.Private.Put.{Put}
 use Rattle.writing.proofs.PutLaws.{next-put}
 use Rattle.writing.proofs.FormLaws.{wrote-bad, wrote-long, wrote-short, wrote-fine}
 

@@ -16,32 +16,32 @@ use Rattle.laws.proofs.Agree.{agree}
 use Rattle.octets.specs.Put.{front}
 use Rattle.octets.proofs.PutLaws.{put-front, front-start, front-behind}
 use Rattle.writing.specs.Fields.{RqFields, AcFields, Reject, Items}
-use Rattle.writing.specs.Form.{Form, formTests, refusalOf, sentBytes, sentOf, Wrote, rqForm, acForm, rejectForm, mostOf, dataForm}
-use Rattle.writing.specs.Inner.{Put}
+use Rattle.writing.specs.Form.{Form, formTests, formRefusal, sentBytes, sentOf, Wrote, rqForm, acForm, rejectForm, mostOf, dataForm}
+use Rattle.writing.specs.Private.Put.{Put}
 use Rattle.writing.specs.declared.Sent.{Sent}
 
 -- ---- when each refusal is given, and when none is
 module _ (f : Form) (room : ℕ) where
-  pub refusal-due : firstDue (formTests f room) ≡ refusalOf f room
-  unfolding refusalOf
+  pub refusal-due : firstDue (formTests f room) ≡ formRefusal f room
+  unfolding formRefusal
   refusal-due = refl
 
-  pub refusal-4 : f .good ≡ false → refusalOf f room ≡ 4
-  unfolding refusalOf
+  pub refusal-4 : f .good ≡ false → formRefusal f room ≡ 4
+  unfolding formRefusal
   refusal-4 e = rw e
 
   module _ (g : f .good ≡ true) where
-    pub refusal-5 : f .most < length (f .pdu) - 6 → refusalOf f room ≡ 5
-    unfolding refusalOf
+    pub refusal-5 : f .most < length (f .pdu) - 6 → formRefusal f room ≡ 5
+    unfolding formRefusal
     refusal-5 h = rw (g, lt-ltb _ _ h)
 
     module _ (h : length (f .pdu) - 6 ≤ f .most) where
-      pub refusal-2 : room < length (f .pdu) → refusalOf f room ≡ 2
-      unfolding refusalOf
+      pub refusal-2 : room < length (f .pdu) → formRefusal f room ≡ 2
+      unfolding formRefusal
       refusal-2 l = rw (g, le-ltb _ _ h, lt-ltb _ _ l)
 
-      pub refusal-0 : length (f .pdu) ≤ room → refusalOf f room ≡ 0
-      unfolding refusalOf
+      pub refusal-0 : length (f .pdu) ≤ room → formRefusal f room ≡ 0
+      unfolding formRefusal
       refusal-0 l = rw (g, le-ltb _ _ h, le-ltb _ _ l)
 
 -- no refusal: the contents are good, the PDU-length keeps the limit, the PDU has room and is what is sent
@@ -51,8 +51,8 @@ pub record Answered (f : Form) (room : ℕ) : Type 0 where
   pub space : length (f .pdu) ≤ room
   pub sent : sentBytes f room ≡ f .pdu
 
-pub answered : (f : Form) (room : ℕ) → refusalOf f room ≡ 0 → Answered f room
-unfolding refusalOf sentBytes
+pub answered : (f : Form) (room : ℕ) → formRefusal f room ≡ 0 → Answered f room
+unfolding formRefusal sentBytes
 answered f room z =
     let p = not-due (not (f .good)) 4 _ (λ e. omega arith) z in
     let q = not-due (ltb (f .most) (length (f .pdu) - 6)) 5 _ (λ e. omega arith) (p .1) in
@@ -61,18 +61,18 @@ answered f room z =
 
 -- ---- a form whose limit is at most 16,384: in an output of 16,390 bytes or more 2 never comes
 module _ (f : Form) (m : f .most ≤ 16384) where
-  pub refusal-roomy : (room : ℕ) → 16390 ≤ room → refusalOf f room ≡ refusalOf f 16390
-  unfolding refusalOf
+  pub refusal-roomy : (room : ℕ) → 16390 ≤ room → formRefusal f room ≡ formRefusal f 16390
+  unfolding formRefusal
   refusal-roomy room h = go (ltb (f .most) (length (f .pdu) - 6)) refl
     where
-      go : (b : Bool) → ltb (f .most) (length (f .pdu) - 6) ≡ b → refusalOf f room ≡ refusalOf f 16390
+      go : (b : Bool) → ltb (f .most) (length (f .pdu) - 6) ≡ b → formRefusal f room ≡ formRefusal f 16390
       go true q = rw q
       go false q =
           let l : length (f .pdu) - 6 ≤ f .most = ltb-false _ _ q in
           rw (le-ltb room (length (f .pdu)) (omega (arith, m, h)), le-ltb 16390 (length (f .pdu)) (omega (arith, m)))
 
-  pub refusal-known : among (refusalOf f 16390) (0 ∷ 4 ∷ 5 ∷ []) ≡ true
-  unfolding refusalOf among
+  pub refusal-known : among (formRefusal f 16390) (0 ∷ 4 ∷ 5 ∷ []) ≡ true
+  unfolding formRefusal among
   refusal-known = go (f .good) (ltb (f .most) (length (f .pdu) - 6)) refl
     where
       go : (a b : Bool) → ltb (f .most) (length (f .pdu) - 6) ≡ b → among (cond (not a) 4 (cond b 5 (cond (ltb 16390 (length (f .pdu))) 2 0))) (0 ∷ 4 ∷ 5 ∷ []) ≡ true
@@ -110,7 +110,7 @@ data-limit peer f = most-limit peer
 
 -- ---- what a writing call leaves, in the order 4, 5, 2
 module _ (f : Form) (o : List ℕ) where
-  refused : (n : ℕ) → refusalOf f (length o) ≡ n → eqb n 0 ≡ false → Wrote f o (record { refusal = n; count = 0 }) o
+  refused : (n : ℕ) → formRefusal f (length o) ≡ n → eqb n 0 ≡ false → Wrote f o (record { refusal = n; count = 0 }) o
   unfolding sentOf sentBytes front
   refused n e z = record { answer = simp (e, z); out = simp (e, z) }
 
@@ -136,7 +136,7 @@ module _ (f : Form) (o : List ℕ) where
 module _ (f : Form) (o : List ℕ) where
   module _ (r : Sent) (o′ : List ℕ) (w : Wrote f o r o′) where
     -- the refusal is the first that applies
-    pub refusal-is : r .refusal ≡ refusalOf f (length o)
+    pub refusal-is : r .refusal ≡ formRefusal f (length o)
     unfolding sentOf
     refusal-is = ap (λ (x : Sent). x .refusal) (w .answer)
 

@@ -23,8 +23,8 @@ use Rattle.sheets.proofs.RecordLaws.{record-length}
 use Rattle.sheets.proofs.GoodLaws.{bad-record}
 use Rattle.sheets.proofs.Inverse.{proposal-contexts, proposal-back}
 use Rattle.writing.specs.Fields.{RqFields, rqGood}
-use Rattle.writing.specs.Wire.{frameItems, frameBytes, pduBytes, contextBody, rqFrame}
-use Rattle.writing.specs.Form.{rqForm, refusalOf}
+use Rattle.writing.specs.Wire.{associateItems, associateBytes, pduBytes, contextBody, rqPdu}
+use Rattle.writing.specs.Form.{rqForm, formRefusal}
 use Rattle.writing.proofs.FormLaws.{refusal-4, refusal-5}
 
 -- the transfer names of contexts, one a record
@@ -69,14 +69,14 @@ items-long (c ∷ cs) =
     omega arith
 
 frame-long : (f : RqFields) → length (itemsBytes 0x20 (map contextBody (contextsIn (f .sheet)))) + 6 ≤ length (rqForm f .pdu)
-unfolding rqForm frameBytes pduBytes frameItems rqFrame
+unfolding rqForm associateBytes pduBytes associateItems rqPdu
 frame-long f =
-    let a = length-append (f .called ++ (f .calling ++ replicate 32 0)) (frameItems (rqFrame f)) in
-    let b = length-append (itemBytes 0x10 (f .application)) (itemsBytes 0x20 (map contextBody (contextsIn (f .sheet))) ++ itemBytes 0x50 (joined (rqFrame f .user))) in
-    let c = length-append (itemsBytes 0x20 (map contextBody (contextsIn (f .sheet)))) (itemBytes 0x50 (joined (rqFrame f .user))) in
+    let a = length-append (f .called ++ (f .calling ++ replicate 32 0)) (associateItems (rqPdu f)) in
+    let b = length-append (itemBytes 0x10 (f .application)) (itemsBytes 0x20 (map contextBody (contextsIn (f .sheet))) ++ itemBytes 0x50 (joined (rqPdu f .user))) in
+    let c = length-append (itemsBytes 0x20 (map contextBody (contextsIn (f .sheet)))) (itemBytes 0x50 (joined (rqPdu f .user))) in
     omega arith
 
-pub many-records : (f : RqFields) (room : ℕ) → rqGood f ≡ true → 4096 < length (f .sheet) / 132 → refusalOf (rqForm f) room ≡ 5
+pub many-records : (f : RqFields) (room : ℕ) → rqGood f ≡ true → 4096 < length (f .sheet) / 132 → formRefusal (rqForm f) room ≡ 5
 unfolding rqForm rqGood contextsOk
 many-records f room g h =
     let s : proposalOk (f .sheet) ≡ true = right-of (nameOk (f .application)) _ (right-of (titleOk (f .calling)) _ (right-of (titleOk (f .called)) _ g)) in
@@ -88,6 +88,6 @@ many-records f room g h =
     refusal-5 (rqForm f) room g (omega arith)
 
 -- whatever the other records, and however many
-pub one-bad-record : (f : RqFields) (room k : ℕ) → 132 * k + 132 ≤ length (f .sheet) → proposalRecord (recordAt (f .sheet) (132 * k)) ≡ false → refusalOf (rqForm f) room ≡ 4
+pub one-bad-record : (f : RqFields) (room k : ℕ) → 132 * k + 132 ≤ length (f .sheet) → proposalRecord (recordAt (f .sheet) (132 * k)) ≡ false → formRefusal (rqForm f) room ≡ 4
 unfolding rqForm rqGood
 one-bad-record f room k h e = refusal-4 (rqForm f) room (simp (bad-record (f .sheet) k h e, and-false))

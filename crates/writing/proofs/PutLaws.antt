@@ -8,7 +8,7 @@ use lib.ListN.{length, length-append}
 use borrow.Author.Needs.{needs}
 use Rattle.octets.specs.Put.{Placed}
 use Rattle.octets.proofs.PutLaws.{put-out, put-behind, put-put, put-length, put-none}
-use Rattle.writing.specs.Inner.{Put}
+use Rattle.writing.specs.Private.Put.{Put}
 
 -- ---- `put`
 pub placed-put : (o bs o′ : List ℕ) (at r : ℕ) → at + length bs ≤ length o → Placed o at bs r o′ → Put o at bs r o′

@@ -15,8 +15,8 @@ use Rattle.octets.proofs.PutLaws.{put-none, put-out, put-behind, put-front, pla
 use Rattle.reasons.specs.Values.{rejectOk, abortOk}
 use Rattle.writing.specs.Fields.{rejectOf, abortOf, rejectGood, abortGood}
 use Rattle.writing.specs.Ten.{tens, tenOf, rejectBytes, abortBytes}
-use Rattle.writing.specs.Form.{refusalOf, Wrote, rejectForm, releaseRqForm, releaseRpForm, abortForm}
-use Rattle.writing.specs.Inner.{Put, tenForm}
+use Rattle.writing.specs.Form.{formRefusal, Wrote, rejectForm, releaseRqForm, releaseRpForm, abortForm}
+use Rattle.writing.specs.Private.Put.{Put, tenForm}
 use Rattle.writing.specs.declared.Sent.{Sent}
 use Rattle.writing.proofs.FormLaws.{refusal-0, refusal-2, wrote-bad, wrote-short, wrote-fine}
 
@@ -93,10 +93,10 @@ module _ (w : ℕ) (o o′ : List ℕ) (n : ℕ) (P : Placed o 0 (tenOf w) n o�
 
 -- ---- a ten-byte PDU with no contents of the host's, or none, gets 2 or nothing
 module _ (w room : ℕ) where
-  pub own-short : room < length (tenOf w) → refusalOf (record { good = true; most = 16384; pdu = tenOf w }) room ≡ 2
+  pub own-short : room < length (tenOf w) → formRefusal (record { good = true; most = 16384; pdu = tenOf w }) room ≡ 2
   own-short h = refusal-2 (record { good = true; most = 16384; pdu = tenOf w }) room refl (omega (arith, ten-length w)) h
 
-  pub own-fine : length (tenOf w) ≤ room → refusalOf (record { good = true; most = 16384; pdu = tenOf w }) room ≡ 0
+  pub own-fine : length (tenOf w) ≤ room → formRefusal (record { good = true; most = 16384; pdu = tenOf w }) room ≡ 0
   own-fine h = refusal-0 (record { good = true; most = 16384; pdu = tenOf w }) room refl (omega (arith, ten-length w)) h
 
 module _ (w : ℕ) where

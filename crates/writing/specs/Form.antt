@@ -10,7 +10,7 @@ use Rattle.laws.specs.Refusals.{firstDue}
 use Rattle.octets.specs.Put.{front}
 use Rattle.writing.specs.Fields.{RqFields, AcFields, Reject, Items, Abort, rqGood, acGood, rejectGood, itemsGood, abortGood}
 use Rattle.writing.specs.Ten.{tenOf, RELEASE-RQ, RELEASE-RP, rejectBytes, abortBytes}
-use Rattle.writing.specs.Wire.{pduBytes, frameBytes, rqFrame, acFrame}
+use Rattle.writing.specs.Wire.{pduBytes, associateBytes, rqPdu, acPdu}
 use Rattle.writing.specs.declared.Sent.{Sent}
 
 -- what some contents want sent: whether they are good, the greatest PDU-length that may be sent, the bytes
@@ -28,15 +28,15 @@ formTests f room =
     ∷ []
 
 -- the first of them that holds, 0 where none does
-unfoldable pub refusalOf : Form → ℕ → ℕ
-refusalOf f room = firstDue (formTests f room)
+unfoldable pub formRefusal : Form → ℕ → ℕ
+formRefusal f room = firstDue (formTests f room)
 
 -- the bytes sent: none where the call is refused
 unfoldable pub sentBytes : Form → ℕ → List ℕ
-sentBytes f room = cond (eqb (refusalOf f room) 0) (f .pdu) []
+sentBytes f room = cond (eqb (formRefusal f room) 0) (f .pdu) []
 
 unfoldable pub sentOf : Form → ℕ → Sent
-sentOf f room = record { refusal = refusalOf f room; count = length (sentBytes f room) }
+sentOf f room = record { refusal = formRefusal f room; count = length (sentBytes f room) }
 
 -- a call wrote a form to the output o, which is now o′, and answered r
 pub record Wrote (f : Form) (o : List ℕ) (r : Sent) (o′ : List ℕ) : Type 0 where
@@ -46,10 +46,10 @@ pub record Wrote (f : Form) (o : List ℕ) (r : Sent) (o′ : List ℕ) : Type 0
 -- ---- the seven
 
 unfoldable pub rqForm : RqFields → Form
-rqForm f = record { good = rqGood f; most = 16384; pdu = frameBytes (rqFrame f) }
+rqForm f = record { good = rqGood f; most = 16384; pdu = associateBytes (rqPdu f) }
 
 unfoldable pub acForm : AcFields → Form
-acForm f = record { good = acGood f; most = 16384; pdu = frameBytes (acFrame f) }
+acForm f = record { good = acGood f; most = 16384; pdu = associateBytes (acPdu f) }
 
 unfoldable pub rejectForm : Reject → Form
 rejectForm f = record { good = rejectGood f; most = 16384; pdu = rejectBytes (f .result) (f .source) (f .reason) }

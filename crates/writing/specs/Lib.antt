@@ -3,4 +3,4 @@ pub mod Ten
 pub mod Wire
 pub mod Form
 pub mod Cases
-pub mod Inner
+pub mod Private

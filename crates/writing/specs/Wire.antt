@@ -15,7 +15,7 @@ unfoldable pub pduBytes : ℕ → List ℕ → List ℕ
 pduBytes kind body = kind ∷ 0 ∷ (four (length body) ++ body)
 
 -- what differs between an RQ and an AC: the type, the 64 bytes behind the version, the application name, the contexts' item type and bodies, the sub-items of the user information
-pub record Frame : Type 0 where
+pub record AssociatePdu : Type 0 where
   pub kind : ℕ
   pub middle : List ℕ
   pub application : List ℕ
@@ -24,12 +24,12 @@ pub record Frame : Type 0 where
   pub user : List (List ℕ)
 
 -- one 10H, the contexts, one 50H
-unfoldable pub frameItems : Frame → List ℕ
-frameItems f = itemBytes 0x10 (f .application) ++ (itemsBytes (f .context) (f .bodies) ++ itemBytes 0x50 (joined (f .user)))
+unfoldable pub associateItems : AssociatePdu → List ℕ
+associateItems f = itemBytes 0x10 (f .application) ++ (itemsBytes (f .context) (f .bodies) ++ itemBytes 0x50 (joined (f .user)))
 
 -- version 1, two reserved bytes, the 64 bytes, the items
-unfoldable pub frameBytes : Frame → List ℕ
-frameBytes f = pduBytes (f .kind) (0 ∷ 1 ∷ 0 ∷ 0 ∷ (f .middle ++ frameItems f))
+unfoldable pub associateBytes : AssociatePdu → List ℕ
+associateBytes f = pduBytes (f .kind) (0 ∷ 1 ∷ 0 ∷ 0 ∷ (f .middle ++ associateItems f))
 
 -- the sub-items of a 50H: our maximum length
 unfoldable pub ourUser : List (List ℕ)
@@ -44,8 +44,8 @@ unfoldable pub answerBody : Answered → List ℕ
 answerBody c = c .id ∷ 0 ∷ c .result ∷ 0 ∷ itemBytes 0x40 (c .transfer)
 
 -- an RQ: the titles, and 32 reserved bytes
-unfoldable pub rqFrame : RqFields → Frame
-rqFrame f =
+unfoldable pub rqPdu : RqFields → AssociatePdu
+rqPdu f =
     record {
       kind = 0x01;
       middle = f .called ++ (f .calling ++ replicate 32 0);
@@ -56,8 +56,8 @@ rqFrame f =
     }
 
 -- an AC: "with the accept response the host gives the RQ's PDU bytes 11 to 74 .. and those fields are copied"
-unfoldable pub acFrame : AcFields → Frame
-acFrame f =
+unfoldable pub acPdu : AcFields → AssociatePdu
+acPdu f =
     record {
       kind = 0x02;
       middle = f .echoed;

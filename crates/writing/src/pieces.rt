@@ -1,7 +1,7 @@
 // Bytes put where they have room.
 ghost use Prim.Native.Nat.{_+_, _≤_};
 ghost use lib.ListN.{length};
-ghost use Rattle.writing.specs.Inner.{Put};
+ghost use Rattle.writing.specs.Private.Put.{Put};
 
 pub(crate) fn put(out: &mut [u8], at: usize, bytes: &[u8]) -> usize
     requires { ⌜ at + length (now bytes) ≤ length (now out) ⌝ }

@@ -6,7 +6,7 @@ ghost use Rattle.octets.specs.Put.{Placed};
 ghost use Rattle.writing.specs.Fields.{rejectOf, abortOf, abortGood};
 ghost use Rattle.writing.specs.Ten.{tenOf};
 ghost use Rattle.writing.specs.Form.{Wrote, rejectForm, releaseRqForm, releaseRpForm, abortForm};
-ghost use Rattle.writing.specs.Inner.{tenForm};
+ghost use Rattle.writing.specs.Private.Put.{tenForm};
 use crate::Sent;
 use crate::pieces::put;
 

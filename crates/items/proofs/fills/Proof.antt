@@ -13,25 +13,15 @@ Inv-loop s at₀ at = filled (walk s) ≡ filled (walk (drop at s))
 abbrev μ-loop : tie.MeasureT-loop
 μ-loop s at₀ at = length s - at
 
-loop-holds : tie.Need-loop-holds Inv-loop μ-loop
-loop-holds c = search fills-laws
-
-item-end-requires : tie.Need-item-end-requires Inv-loop μ-loop
-item-end-requires c κs = search fills-laws
-
-returns : tie.Need-returns Inv-loop μ-loop
-returns c = search fills-laws
-
-loop-less : tie.Need-loop-less Inv-loop μ-loop
-loop-less c = search fills-laws
-
-loop-again : tie.Need-loop-again Inv-loop μ-loop
-loop-again c = search fills-laws
-
-returns-2 : tie.Need-returns-2 Inv-loop μ-loop
-returns-2 c = search fills-laws
-
 pub fills-spec : {M : Type 1} → statement M
 fills-spec =
     tie.close
-    (tie.spec Inv-loop μ-loop loop-holds item-end-requires returns loop-less loop-again returns-2)
+    (tie.spec
+    Inv-loop
+    μ-loop
+    (λ c. search fills-laws)  -- loop-holds
+    (λ c κs. search fills-laws)  -- item-end-requires
+    (λ c. search fills-laws)  -- returns
+    (λ c. search fills-laws)  -- loop-less
+    (λ c. search fills-laws)  -- loop-again
+    (λ c. search fills-laws))  -- returns-2

@@ -13,45 +13,18 @@ Inv-loop t s at₀ at = place t (walk s) ≡ at + place t (walk (drop at s))
 abbrev μ-loop : tie.MeasureT-loop
 μ-loop t s at₀ at = length s - at
 
-loop-holds : tie.Need-loop-holds Inv-loop μ-loop
-loop-holds c = search place-laws
-
-item-end-requires : tie.Need-item-end-requires Inv-loop μ-loop
-item-end-requires c κs = search place-laws
-
-returns : tie.Need-returns Inv-loop μ-loop
-returns c = search place-laws
-
-shared-slice-read-if2 : tie.Need-shared-slice-read-if2 Inv-loop μ-loop
-shared-slice-read-if2 c = search place-laws
-
-add-result : tie.Need-add-result Inv-loop μ-loop
-add-result c = search place-laws
-
-returns-2 : tie.Need-returns-2 Inv-loop μ-loop
-returns-2 c = search place-laws
-
-loop-less : tie.Need-loop-less Inv-loop μ-loop
-loop-less c = search place-laws
-
-loop-again : tie.Need-loop-again Inv-loop μ-loop
-loop-again c = search place-laws
-
-returns-3 : tie.Need-returns-3 Inv-loop μ-loop
-returns-3 c = search place-laws
-
 pub place-of-spec : {M : Type 1} → statement M
 place-of-spec =
     tie.close
     (tie.spec
     Inv-loop
     μ-loop
-    loop-holds
-    item-end-requires
-    returns
-    shared-slice-read-if2
-    add-result
-    returns-2
-    loop-less
-    loop-again
-    returns-3)
+    (λ c. search place-laws)  -- loop-holds
+    (λ c κs. search place-laws)  -- item-end-requires
+    (λ c. search place-laws)  -- returns
+    (λ c. search place-laws)  -- shared-slice-read-if2
+    (λ c. search place-laws)  -- add-result
+    (λ c. search place-laws)  -- returns-2
+    (λ c. search place-laws)  -- loop-less
+    (λ c. search place-laws)  -- loop-again
+    (λ c. search place-laws))  -- returns-3

@@ -51,7 +51,7 @@ use Rattle.association.proofs.Assoc as T
 use Rattle.association.proofs.Assoc.Laws as T′
 use Rattle.association.proofs.Told as U
 use Rattle.association.proofs.Told.Laws as U′
-use Rattle.demand.specs.Calls.{leaves}
+use Rattle.demand_3.specs.Calls.{leaves}
 use Rattle.lent.proofs.event_lent as lent
 use Rattle.lent.proofs.event_lent.Symbol as lent-def
 use Rattle.lent.proofs.event_lent.Symbol.{name as #event-lent}

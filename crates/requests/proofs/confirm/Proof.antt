@@ -5,35 +5,14 @@ use borrow.Author.Needs.{needs}
 use Rattle.requests.proofs.confirm.Statement.{statement}
 use Rattle.requests.proofs.confirm.Tie as tie
 
-gated-requires : tie.Need-gated-requires
-gated-requires c κs = search needs
-
-refused-requires : tie.Need-refused-requires
-refused-requires c κs = search needs
-
-returns : tie.Need-returns
-returns c = search (needs, shut-at)
-
-write-request-requires : tie.Need-write-request-requires
-write-request-requires c κs = search needs
-
-finish-requires : tie.Need-finish-requires
-finish-requires c κs = search needs
-
-same-length : tie.Need-same-length
-same-length c = search needs
-
-returns-2 : tie.Need-returns-2
-returns-2 c = search (needs, finish-at)
-
 pub confirm-spec : {M : Type 1} → statement M
 confirm-spec =
     tie.close
     (tie.spec
-    gated-requires
-    refused-requires
-    returns
-    write-request-requires
-    finish-requires
-    same-length
-    returns-2)
+    (λ c κs. search needs)  -- gated-requires
+    (λ c κs. search needs)  -- refused-requires
+    (λ c. search (needs, shut-at))  -- returns
+    (λ c κs. search needs)  -- write-request-requires
+    (λ c κs. search needs)  -- finish-requires
+    (λ c. search needs)  -- same-length
+    (λ c. search (needs, finish-at)))  -- returns-2

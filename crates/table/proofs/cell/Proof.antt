@@ -19,12 +19,6 @@ returns-3 c = sym (no-state _ _ (search needs))
 returns-4 : tie.Need-returns-4
 returns-4 c = sym (past-columns _ _ (search needs))
 
-place-requires : tie.Need-place-requires
-place-requires c κs = search needs
-
-array-read-result : tie.Need-array-read-result
-array-read-result c = search needs
-
 returns-5 : tie.Need-returns-5
 unfolding cells table
 returns-5 c = rw (c .place .ensures .0) (cell-right _ _ (search needs) (search needs) (search needs) (search needs))
@@ -32,4 +26,11 @@ returns-5 c = rw (c .place .ensures .0) (cell-right _ _ (search needs) (search n
 pub cell-spec : {M : Type 1} → statement M
 cell-spec =
     tie.close
-    (tie.spec returns returns-2 returns-3 returns-4 place-requires array-read-result returns-5)
+    (tie.spec
+    returns
+    returns-2
+    returns-3
+    returns-4
+    (λ c κs. search needs)  -- place-requires
+    (λ c. search needs)  -- array-read-result
+    returns-5)

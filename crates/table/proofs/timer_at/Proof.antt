@@ -12,19 +12,17 @@ returns c = column-none timer-column _ (search needs)
 returns-2 : tie.Need-returns-2
 returns-2 c = column-past timer-column _ (search needs)
 
-wide-requires : tie.Need-wide-requires
-wide-requires c κs = search needs
-
-sub-at : tie.Need-sub-at
-sub-at c = search needs
-
-array-read-result : tie.Need-array-read-result
-array-read-result c = search needs
-
 returns-3 : tie.Need-returns-3
 unfolding timers actions
 returns-3 c = column-at timer-column _ _ (c .wide .ensures) (search needs) (search needs)
 
 pub timer-at-spec : {M : Type 1} → statement M
 timer-at-spec =
-    tie.close (tie.spec returns returns-2 wide-requires sub-at array-read-result returns-3)
+    tie.close
+    (tie.spec
+    returns
+    returns-2
+    (λ c κs. search needs)  -- wide-requires
+    (λ c. search needs)  -- sub-at
+    (λ c. search needs)  -- array-read-result
+    returns-3)

@@ -5,36 +5,21 @@ use Rattle.association.proofs.RefusalLaws.{tests}
 use Rattle.association.proofs.refusals.broken.Statement.{statement}
 use Rattle.association.proofs.refusals.broken.Tie as tie
 
-stray-state-requires : tie.Need-stray-state-requires
-stray-state-requires c κs = search tests depth 9
-
 returns : tie.Need-returns
 unfolding broken clauses
 returns c = search tests depth 9
-
-overfull-requires : tie.Need-overfull-requires
-overfull-requires c κs = search tests depth 9
 
 returns-2 : tie.Need-returns-2
 unfolding broken clauses
 returns-2 c = search tests depth 9
 
-stray-deaf-requires : tie.Need-stray-deaf-requires
-stray-deaf-requires c κs = search tests depth 9
-
 returns-3 : tie.Need-returns-3
 unfolding broken clauses
 returns-3 c = search tests depth 9
 
-mistimed-requires : tie.Need-mistimed-requires
-mistimed-requires c κs = search tests depth 9
-
 returns-4 : tie.Need-returns-4
 unfolding broken clauses
 returns-4 c = search tests depth 9
-
-marked-idle-requires : tie.Need-marked-idle-requires
-marked-idle-requires c κs = search tests depth 9
 
 returns-5 : tie.Need-returns-5
 unfolding broken clauses
@@ -44,13 +29,13 @@ pub broken-spec : {M : Type 1} → statement M
 broken-spec =
     tie.close
     (tie.spec
-    stray-state-requires
+    (λ c κs. search tests depth 9)  -- stray-state-requires
     returns
-    overfull-requires
+    (λ c κs. search tests depth 9)  -- overfull-requires
     returns-2
-    stray-deaf-requires
+    (λ c κs. search tests depth 9)  -- stray-deaf-requires
     returns-3
-    mistimed-requires
+    (λ c κs. search tests depth 9)  -- mistimed-requires
     returns-4
-    marked-idle-requires
+    (λ c κs. search tests depth 9)  -- marked-idle-requires
     returns-5)

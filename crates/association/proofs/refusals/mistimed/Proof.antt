@@ -4,14 +4,10 @@ use Rattle.association.proofs.RefusalLaws.{tests, marked-timed, marked-
 use Rattle.association.proofs.refusals.mistimed.Statement.{statement}
 use Rattle.association.proofs.refusals.mistimed.Tie as tie
 
-timed-requires : tie.Need-timed-requires
-timed-requires c κs = search (tests, marked-timed, marked-not)
-
-returns : tie.Need-returns
-returns c = search (tests, marked-timed, marked-not)
-
-returns-2 : tie.Need-returns-2
-returns-2 c = search (tests, marked-timed, marked-not)
-
 pub mistimed-spec : {M : Type 1} → statement M
-mistimed-spec = tie.close (tie.spec timed-requires returns returns-2)
+mistimed-spec =
+    tie.close
+    (tie.spec
+    (λ c κs. search (tests, marked-timed, marked-not))  -- timed-requires
+    (λ c. search (tests, marked-timed, marked-not))  -- returns
+    (λ c. search (tests, marked-timed, marked-not)))  -- returns-2

@@ -9,9 +9,6 @@ returns : tie.Need-returns
 unfolding overfull
 returns c = search tests
 
-dropping-requires : tie.Need-dropping-requires
-dropping-requires c κs = search tests
-
 returns-2 : tie.Need-returns-2
 unfolding overfull
 returns-2 c = search tests
@@ -21,4 +18,10 @@ unfolding overfull
 returns-3 c = search tests
 
 pub overfull-spec : {M : Type 1} → statement M
-overfull-spec = tie.close (tie.spec returns dropping-requires returns-2 returns-3)
+overfull-spec =
+    tie.close
+    (tie.spec
+    returns
+    (λ c κs. search tests)  -- dropping-requires
+    returns-2
+    returns-3)

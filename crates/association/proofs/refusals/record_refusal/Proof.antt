@@ -5,9 +5,6 @@ use Rattle.association.proofs.RefusalLaws.{tests}
 use Rattle.association.proofs.refusals.record_refusal.Statement.{statement}
 use Rattle.association.proofs.refusals.record_refusal.Tie as tie
 
-broken-requires : tie.Need-broken-requires
-broken-requires c κs = search tests
-
 returns : tie.Need-returns
 unfolding recordRefusal
 returns c = search tests
@@ -15,9 +12,6 @@ returns c = search tests
 returns-2 : tie.Need-returns-2
 unfolding recordRefusal
 returns-2 c = search tests
-
-bad-length-requires : tie.Need-bad-length-requires
-bad-length-requires c κs = search tests
 
 returns-3 : tie.Need-returns-3
 unfolding recordRefusal
@@ -29,4 +23,11 @@ returns-4 c = search tests
 
 pub record-refusal-spec : {M : Type 1} → statement M
 record-refusal-spec =
-    tie.close (tie.spec broken-requires returns returns-2 bad-length-requires returns-3 returns-4)
+    tie.close
+    (tie.spec
+    (λ c κs. search tests)  -- broken-requires
+    returns
+    returns-2
+    (λ c κs. search tests)  -- bad-length-requires
+    returns-3
+    returns-4)

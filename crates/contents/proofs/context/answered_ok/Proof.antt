@@ -8,34 +8,13 @@ returns : tie.Need-returns
 unfolding good21H
 returns c = search bodied
 
-shared-slice-read-if2 : tie.Need-shared-slice-read-if2
-shared-slice-read-if2 c = search bodied
-
 returns-2 : tie.Need-returns-2
 unfolding good21H
 returns-2 c = search bodied
 
-shared-slice-read-if3 : tie.Need-shared-slice-read-if3
-shared-slice-read-if3 c = search bodied
-
 returns-3 : tie.Need-returns-3
 unfolding good21H
 returns-3 c = search bodied
-
-shared-slice-read-transfer-ok : tie.Need-shared-slice-read-transfer-ok
-shared-slice-read-transfer-ok c = search bodied
-
-sub-transfer-ok : tie.Need-sub-transfer-ok
-sub-transfer-ok c = search bodied
-
-part-transfer-ok-start : tie.Need-part-transfer-ok-start
-part-transfer-ok-start c = search bodied
-
-part-transfer-ok-end : tie.Need-part-transfer-ok-end
-part-transfer-ok-end c = search bodied
-
-transfer-ok-requires : tie.Need-transfer-ok-requires
-transfer-ok-requires c κs = search bodied
 
 returns-4 : tie.Need-returns-4
 unfolding good21H
@@ -46,13 +25,13 @@ answered-ok-spec =
     tie.close
     (tie.spec
     returns
-    shared-slice-read-if2
+    (λ c. search bodied)  -- shared-slice-read-if2
     returns-2
-    shared-slice-read-if3
+    (λ c. search bodied)  -- shared-slice-read-if3
     returns-3
-    shared-slice-read-transfer-ok
-    sub-transfer-ok
-    part-transfer-ok-start
-    part-transfer-ok-end
-    transfer-ok-requires
+    (λ c. search bodied)  -- shared-slice-read-transfer-item-ok
+    (λ c. search bodied)  -- sub-transfer-item-ok
+    (λ c. search bodied)  -- part-transfer-item-ok-start
+    (λ c. search bodied)  -- part-transfer-item-ok-end
+    (λ c κs. search bodied)  -- transfer-item-ok-requires
     returns-4)

@@ -4,19 +4,19 @@ use Rattle.contents.proofs.ContentLaws.{counting}
 use Rattle.contents.proofs.context.one_of.Statement.{statement}
 use Rattle.contents.proofs.context.one_of.Tie as tie
 
-fills-requires : tie.Need-fills-requires
-fills-requires c κs = search counting
-
 returns : tie.Need-returns
 unfolding one
 returns c = search counting
-
-count-of-requires : tie.Need-count-of-requires
-count-of-requires c κs = search counting
 
 returns-2 : tie.Need-returns-2
 unfolding one
 returns-2 c = search counting
 
 pub one-of-spec : {M : Type 1} → statement M
-one-of-spec = tie.close (tie.spec fills-requires returns count-of-requires returns-2)
+one-of-spec =
+    tie.close
+    (tie.spec
+    (λ c κs. search counting)  -- fills-requires
+    returns
+    (λ c κs. search counting)  -- count-of-requires
+    returns-2)

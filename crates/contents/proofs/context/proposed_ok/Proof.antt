@@ -8,24 +8,9 @@ returns : tie.Need-returns
 unfolding good20H
 returns c = search bodied
 
-shared-slice-read-id : tie.Need-shared-slice-read-id
-shared-slice-read-id c = search bodied
-
 returns-2 : tie.Need-returns-2
 unfolding good20H
 returns-2 c = search bodied
-
-sub-subs-ok : tie.Need-sub-subs-ok
-sub-subs-ok c = search bodied
-
-part-subs-ok-start : tie.Need-part-subs-ok-start
-part-subs-ok-start c = search bodied
-
-part-subs-ok-end : tie.Need-part-subs-ok-end
-part-subs-ok-end c = search bodied
-
-subs-ok-requires : tie.Need-subs-ok-requires
-subs-ok-requires c κs = search bodied
 
 returns-3 : tie.Need-returns-3
 unfolding good20H
@@ -36,10 +21,10 @@ proposed-ok-spec =
     tie.close
     (tie.spec
     returns
-    shared-slice-read-id
+    (λ c. search bodied)  -- shared-slice-read-id
     returns-2
-    sub-subs-ok
-    part-subs-ok-start
-    part-subs-ok-end
-    subs-ok-requires
+    (λ c. search bodied)  -- sub-subs-ok
+    (λ c. search bodied)  -- part-subs-ok-start
+    (λ c. search bodied)  -- part-subs-ok-end
+    (λ c κs. search bodied)  -- subs-ok-requires
     returns-3)

@@ -1,5 +1,5 @@
 -- `contents::sub_next` meets its contract. Assumes nothing.
-use Rattle.contents.specs.Inner.{subNext}
+use Rattle.contents.specs.Private.Order.{subNext}
 use Rattle.laws.proofs.Tests.{follow}
 use Rattle.contents.proofs.context.sub_next.Statement.{statement}
 use Rattle.contents.proofs.context.sub_next.Tie as tie

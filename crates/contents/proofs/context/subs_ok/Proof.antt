@@ -3,9 +3,9 @@ use Prim.Native.Nat.{_-_}
 use mathlib.Core.Path.{_≡_}
 use lib.ListN.{length, drop}
 use Rattle.items.specs.Items.{walk}
-use Rattle.items.specs.Inner.{keeps}
+use Rattle.items.specs.Private.Rules.{keeps}
 use Rattle.contents.specs.Contents.{subsOk}
-use Rattle.contents.specs.Inner.{subRule}
+use Rattle.contents.specs.Private.Order.{subRule}
 use Rattle.contents.proofs.ContentLaws.{in-order}
 use Rattle.contents.proofs.context.subs_ok.Statement.{statement}
 use Rattle.contents.proofs.context.subs_ok.Tie as tie
@@ -16,65 +16,23 @@ Inv-loop s at₀ st₀ at st = subsOk (walk s) ≡ keeps subRule st (walk (drop 
 abbrev μ-loop : tie.MeasureT-loop
 μ-loop s at₀ st₀ at st = length s - at
 
-loop-holds : tie.Need-loop-holds Inv-loop μ-loop
-loop-holds c = search in-order
-
-item-end-requires : tie.Need-item-end-requires Inv-loop μ-loop
-item-end-requires c κs = search in-order
-
-returns : tie.Need-returns Inv-loop μ-loop
-returns c = search in-order
-
-shared-slice-read-t : tie.Need-shared-slice-read-t Inv-loop μ-loop
-shared-slice-read-t c = search in-order
-
-add-a : tie.Need-add-a Inv-loop μ-loop
-add-a c = search in-order
-
-sub-sub-good : tie.Need-sub-sub-good Inv-loop μ-loop
-sub-sub-good c = search in-order
-
-part-sub-good-start : tie.Need-part-sub-good-start Inv-loop μ-loop
-part-sub-good-start c = search in-order
-
-part-sub-good-end : tie.Need-part-sub-good-end Inv-loop μ-loop
-part-sub-good-end c = search in-order
-
-sub-good-requires : tie.Need-sub-good-requires Inv-loop μ-loop
-sub-good-requires c κs = search in-order
-
-returns-2 : tie.Need-returns-2 Inv-loop μ-loop
-returns-2 c = search in-order
-
-sub-next-requires : tie.Need-sub-next-requires Inv-loop μ-loop
-sub-next-requires c κs = search in-order
-
-loop-less : tie.Need-loop-less Inv-loop μ-loop
-loop-less c = search in-order
-
-loop-again : tie.Need-loop-again Inv-loop μ-loop
-loop-again c = search in-order
-
-returns-3 : tie.Need-returns-3 Inv-loop μ-loop
-returns-3 c = search in-order
-
 pub subs-ok-spec : {M : Type 1} → statement M
 subs-ok-spec =
     tie.close
     (tie.spec
     Inv-loop
     μ-loop
-    loop-holds
-    item-end-requires
-    returns
-    shared-slice-read-t
-    add-a
-    sub-sub-good
-    part-sub-good-start
-    part-sub-good-end
-    sub-good-requires
-    returns-2
-    sub-next-requires
-    loop-less
-    loop-again
-    returns-3)
+    (λ c. search in-order)  -- loop-holds
+    (λ c κs. search in-order)  -- item-end-requires
+    (λ c. search in-order)  -- returns
+    (λ c. search in-order)  -- shared-slice-read-t
+    (λ c. search in-order)  -- add-a
+    (λ c. search in-order)  -- sub-sub-good
+    (λ c. search in-order)  -- part-sub-good-start
+    (λ c. search in-order)  -- part-sub-good-end
+    (λ c κs. search in-order)  -- sub-good-requires
+    (λ c. search in-order)  -- returns-2
+    (λ c κs. search in-order)  -- sub-next-requires
+    (λ c. search in-order)  -- loop-less
+    (λ c. search in-order)  -- loop-again
+    (λ c. search in-order))  -- returns-3

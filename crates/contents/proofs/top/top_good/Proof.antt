@@ -4,22 +4,13 @@ use Rattle.laws.proofs.Tests.{decide}
 use Rattle.contents.proofs.top.top_good.Statement.{statement}
 use Rattle.contents.proofs.top.top_good.Tie as tie
 
-name-ok-requires : tie.Need-name-ok-requires
-name-ok-requires c κs = search decide
-
 returns : tie.Need-returns
 unfolding topGood
 returns c = search decide
 
-context-good-requires : tie.Need-context-good-requires
-context-good-requires c κs = search decide
-
 returns-2 : tie.Need-returns-2
 unfolding topGood
 returns-2 c = search decide
-
-user-ok-requires : tie.Need-user-ok-requires
-user-ok-requires c κs = search decide
 
 returns-3 : tie.Need-returns-3
 unfolding topGood
@@ -33,10 +24,10 @@ pub top-good-spec : {M : Type 1} → statement M
 top-good-spec =
     tie.close
     (tie.spec
-    name-ok-requires
+    (λ c κs. search decide)  -- name-ok-requires
     returns
-    context-good-requires
+    (λ c κs. search decide)  -- context-good-requires
     returns-2
-    user-ok-requires
+    (λ c κs. search decide)  -- user-ok-requires
     returns-3
     returns-4)

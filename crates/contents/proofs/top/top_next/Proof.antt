@@ -1,5 +1,5 @@
 -- `contents::top_next` meets its contract. Assumes nothing.
-use Rattle.contents.specs.Inner.{topNext}
+use Rattle.contents.specs.Private.Order.{topNext}
 use Rattle.laws.proofs.Tests.{follow}
 use Rattle.contents.proofs.top.top_next.Statement.{statement}
 use Rattle.contents.proofs.top.top_next.Tie as tie

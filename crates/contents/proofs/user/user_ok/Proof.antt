@@ -4,19 +4,19 @@ use Rattle.contents.proofs.ContentLaws.{counting}
 use Rattle.contents.proofs.user.user_ok.Statement.{statement}
 use Rattle.contents.proofs.user.user_ok.Tie as tie
 
-one-of-requires : tie.Need-one-of-requires
-one-of-requires c κs = search counting
-
 returns : tie.Need-returns
 unfolding good50H
 returns c = search counting
-
-first-of-requires : tie.Need-first-of-requires
-first-of-requires c κs = search counting
 
 returns-2 : tie.Need-returns-2
 unfolding good50H
 returns-2 c = search counting
 
 pub user-ok-spec : {M : Type 1} → statement M
-user-ok-spec = tie.close (tie.spec one-of-requires returns first-of-requires returns-2)
+user-ok-spec =
+    tie.close
+    (tie.spec
+    (λ c κs. search counting)  -- one-of-requires
+    returns
+    (λ c κs. search counting)  -- first-of-requires
+    returns-2)

@@ -8,15 +8,6 @@ returns : tie.Need-returns
 unfolding abortPduOk
 returns c = search kinds
 
-shared-slice-read-abort-ok : tie.Need-shared-slice-read-abort-ok
-shared-slice-read-abort-ok c = search kinds
-
-shared-slice-read-abort-ok-2 : tie.Need-shared-slice-read-abort-ok-2
-shared-slice-read-abort-ok-2 c = search kinds
-
-abort-ok-requires : tie.Need-abort-ok-requires
-abort-ok-requires c κs = search kinds
-
 returns-2 : tie.Need-returns-2
 unfolding abortPduOk
 returns-2 c = search kinds
@@ -26,7 +17,7 @@ abort-pdu-ok-spec =
     tie.close
     (tie.spec
     returns
-    shared-slice-read-abort-ok
-    shared-slice-read-abort-ok-2
-    abort-ok-requires
+    (λ c. search kinds)  -- shared-slice-read-abort-ok
+    (λ c. search kinds)  -- shared-slice-read-abort-ok-2
+    (λ c κs. search kinds)  -- abort-ok-requires
     returns-2)

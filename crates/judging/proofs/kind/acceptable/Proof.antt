@@ -3,17 +3,11 @@ use Rattle.judging.proofs.KindLaws.{asked-laws}
 use Rattle.judging.proofs.kind.acceptable.Statement.{statement}
 use Rattle.judging.proofs.kind.acceptable.Tie as tie
 
-kind-of-requires : tie.Need-kind-of-requires
-kind-of-requires c κs = search asked-laws
-
-returns : tie.Need-returns
-returns c = search asked-laws
-
-be16-at-requires : tie.Need-be16-at-requires
-be16-at-requires c κs = search asked-laws
-
-returns-2 : tie.Need-returns-2
-returns-2 c = search asked-laws
-
 pub acceptable-spec : {M : Type 1} → statement M
-acceptable-spec = tie.close (tie.spec kind-of-requires returns be16-at-requires returns-2)
+acceptable-spec =
+    tie.close
+    (tie.spec
+    (λ c κs. search asked-laws)  -- kind-of-requires
+    (λ c. search asked-laws)  -- returns
+    (λ c κs. search asked-laws)  -- be16-at-requires
+    (λ c. search asked-laws))  -- returns-2

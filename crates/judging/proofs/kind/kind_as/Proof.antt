@@ -1,11 +1,8 @@
 -- `judging::kind_as` meets its contract. Assumes nothing.
-use Rattle.judging.specs.Inner.{kindAs}
+use Rattle.judging.specs.Private.Kinds.{kindAs}
 use Rattle.laws.proofs.Tests.{decide}
 use Rattle.judging.proofs.kind.kind_as.Statement.{statement}
 use Rattle.judging.proofs.kind.kind_as.Tie as tie
-
-valid-as-requires : tie.Need-valid-as-requires
-valid-as-requires c κs = search decide
 
 returns : tie.Need-returns
 unfolding kindAs
@@ -16,4 +13,9 @@ unfolding kindAs
 returns-2 c = search decide
 
 pub kind-as-spec : {M : Type 1} → statement M
-kind-as-spec = tie.close (tie.spec valid-as-requires returns returns-2)
+kind-as-spec =
+    tie.close
+    (tie.spec
+    (λ c κs. search decide)  -- valid-as-requires
+    returns
+    returns-2)

@@ -8,18 +8,6 @@ returns : tie.Need-returns
 unfolding rejectPduOk
 returns c = search kinds
 
-shared-slice-read-reject-ok : tie.Need-shared-slice-read-reject-ok
-shared-slice-read-reject-ok c = search kinds
-
-shared-slice-read-reject-ok-2 : tie.Need-shared-slice-read-reject-ok-2
-shared-slice-read-reject-ok-2 c = search kinds
-
-shared-slice-read-reject-ok-3 : tie.Need-shared-slice-read-reject-ok-3
-shared-slice-read-reject-ok-3 c = search kinds
-
-reject-ok-requires : tie.Need-reject-ok-requires
-reject-ok-requires c κs = search kinds
-
 returns-2 : tie.Need-returns-2
 unfolding rejectPduOk
 returns-2 c = search kinds
@@ -29,8 +17,8 @@ reject-pdu-ok-spec =
     tie.close
     (tie.spec
     returns
-    shared-slice-read-reject-ok
-    shared-slice-read-reject-ok-2
-    shared-slice-read-reject-ok-3
-    reject-ok-requires
+    (λ c. search kinds)  -- shared-slice-read-reject-ok
+    (λ c. search kinds)  -- shared-slice-read-reject-ok-2
+    (λ c. search kinds)  -- shared-slice-read-reject-ok-3
+    (λ c κs. search kinds)  -- reject-ok-requires
     returns-2)

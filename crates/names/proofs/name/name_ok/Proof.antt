@@ -3,7 +3,7 @@
 use Prim.Native.Nat.{_≤_, _-_}
 use mathlib.Core.Path.{_≡_}
 use lib.ListN.{length, drop}
-use Rattle.names.specs.Part.{reads}
+use Rattle.names.specs.Private.OnePass.{reads}
 use Rattle.names.specs.declared.name.Part.the-variants.{Start}
 use Rattle.names.proofs.NameLaws.{name-laws}
 use Rattle.names.proofs.name.name_ok.Statement.{statement}

@@ -1,5 +1,5 @@
 -- `reading::context_type` meets its contract. Assumes nothing.
-use Rattle.reading.specs.Inner.{contextType}
+use Rattle.reading.specs.Private.Records.{contextType}
 use Rattle.laws.proofs.Tests.{follow}
 use Rattle.reading.proofs.associate.context_type.Statement.{statement}
 use Rattle.reading.proofs.associate.context_type.Tie as tie

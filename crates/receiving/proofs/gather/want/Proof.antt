@@ -1,6 +1,6 @@
 -- `want` meets its contract.
 -- Assumes nothing.
-use Rattle.receiving.specs.Gathering.{wantOf}
+use Rattle.receiving.specs.Private.Gathering.{wantOf}
 use Rattle.laws.proofs.Tests.{follow}
 use Rattle.receiving.proofs.gather.want.Statement.{statement}
 use Rattle.receiving.proofs.gather.want.Tie as tie
@@ -8,12 +8,6 @@ use Rattle.receiving.proofs.gather.want.Tie as tie
 returns : tie.Need-returns
 unfolding wantOf
 returns c = search follow
-
-sub-if2 : tie.Need-sub-if2
-sub-if2 c = search follow
-
-sub-result : tie.Need-sub-result
-sub-result c = search follow
 
 returns-2 : tie.Need-returns-2
 unfolding wantOf
@@ -24,4 +18,11 @@ unfolding wantOf
 returns-3 c = search follow
 
 pub want-spec : {M : Type 1} → statement M
-want-spec = tie.close (tie.spec returns sub-if2 sub-result returns-2 returns-3)
+want-spec =
+    tie.close
+    (tie.spec
+    returns
+    (λ c. search follow)  -- sub-if2
+    (λ c. search follow)  -- sub-result
+    returns-2
+    returns-3)

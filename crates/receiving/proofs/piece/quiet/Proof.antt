@@ -1,6 +1,6 @@
 -- `quiet` meets its contract.
 -- Assumes nothing.
-use Rattle.receiving.specs.Steps.{quietOf}
+use Rattle.receiving.specs.Private.Reactions.{quietOf}
 use Rattle.association.proofs.RefusalLaws.{tests}
 use Rattle.receiving.proofs.piece.quiet.Statement.{statement}
 use Rattle.receiving.proofs.piece.quiet.Tie as tie

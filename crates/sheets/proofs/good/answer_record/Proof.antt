@@ -16,7 +16,7 @@ answer-record-spec =
     (λ c. search answer-record-laws)  -- returns-3
     (λ c. search answer-record-laws)  -- shared-slice-read-if4
     (λ c. search answer-record-laws)  -- returns-4
-    (λ c. search answer-record-laws)  -- shared-slice-read-transfer-ok
+    (λ c. search answer-record-laws)  -- shared-slice-read-transfer-name-ok
     (λ c κs. search answer-record-laws)  -- transfer-of-requires
-    (λ c κs. search answer-record-laws)  -- transfer-ok-requires
+    (λ c κs. search answer-record-laws)  -- transfer-name-ok-requires
     (λ c. search answer-record-laws))  -- returns-5

@@ -5,7 +5,7 @@ use mathlib.Core.Path.{_≡_}
 use lib.ListN.{length, drop}
 use Rattle.laws.specs.Lists.{all}
 use Rattle.sheets.specs.Sheet.{recordsOf}
-use Rattle.sheets.specs.Parts.{recordOk}
+use Rattle.sheets.specs.Private.OneRecord.{recordOk}
 use Rattle.sheets.proofs.GoodLaws.{all-laws}
 use Rattle.sheets.proofs.good.records_ok.Statement.{statement}
 use Rattle.sheets.proofs.good.records_ok.Tie as tie

@@ -4,7 +4,7 @@ use Prim.Native.Nat.{_-_, _%_, _≤_}
 use mathlib.Core.Path.{_≡_}
 use lib.ListN.{length, drop}
 use Rattle.laws.specs.Lists.{distinct}
-use Rattle.sheets.specs.Parts.{idsIn}
+use Rattle.sheets.specs.Private.OneRecord.{idsIn}
 use Rattle.sheets.proofs.RunLaws.{apart-laws}
 use Rattle.sheets.proofs.ids.ids_differ.Statement.{statement}
 use Rattle.sheets.proofs.ids.ids_differ.Tie as tie

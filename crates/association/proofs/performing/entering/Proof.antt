@@ -1,0 +1,12 @@
+-- `entering` meets its contract.
+-- Assumes nothing.
+use Rattle.association.proofs.PerformingLaws.{deed-laws}
+use Rattle.association.proofs.performing.entering.Statement.{statement}
+use Rattle.association.proofs.performing.entering.Tie as tie
+
+pub entering-spec : {M : Type 1} → statement M
+entering-spec =
+    tie.close
+    (tie.spec
+    (λ c. search deed-laws)  -- returns
+    (λ c. search deed-laws))  -- returns-2

@@ -1,3 +1,0 @@
-pub mod Cells
-pub mod Gather
-pub mod ShutOut

@@ -1,0 +1,15 @@
+pub mod Unbroken
+pub mod Moves
+pub mod Sound
+pub mod Given
+pub mod Kept
+pub mod Ready
+pub mod Moved
+pub mod Answered
+pub mod Cells
+pub mod Calls
+pub mod Untouched
+pub mod ShutOut
+pub mod Named
+pub mod Sent
+pub mod Empty

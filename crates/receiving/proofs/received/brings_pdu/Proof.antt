@@ -1,0 +1,13 @@
+-- `brings_pdu` meets its contract.
+-- Assumes nothing.
+use Rattle.receiving.proofs.ReceivedLaws.{deed-laws}
+use Rattle.receiving.proofs.received.brings_pdu.Statement.{statement}
+use Rattle.receiving.proofs.received.brings_pdu.Tie as tie
+
+pub brings-pdu-spec : {M : Type 1} → statement M
+brings-pdu-spec =
+    tie.close
+    (tie.spec
+    (λ c κs. search deed-laws)  -- accepts-at-requires
+    (λ c κs. search deed-laws)  -- peer-at-requires
+    (λ c. search deed-laws))  -- returns

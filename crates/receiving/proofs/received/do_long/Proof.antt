@@ -1,0 +1,15 @@
+-- `do_long` meets its contract.
+-- Assumes nothing.
+use Rattle.receiving.proofs.ReceivedLaws.{deed-laws}
+use Rattle.receiving.proofs.received.do_long.Statement.{statement}
+use Rattle.receiving.proofs.received.do_long.Tie as tie
+
+pub do-long-spec : {M : Type 1} → statement M
+do-long-spec =
+    tie.close
+    (tie.spec
+    (λ c κs. search deed-laws)  -- on-long-requires
+    (λ c κs. search deed-laws)  -- write-ten-requires
+    (λ c κs. search deed-laws)  -- tells-requires
+    (λ c. search deed-laws)  -- same-length
+    (λ c. search deed-laws))  -- returns

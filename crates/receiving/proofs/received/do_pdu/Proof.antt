@@ -1,0 +1,15 @@
+-- `do_pdu` meets its contract.
+-- Assumes nothing.
+use Rattle.receiving.proofs.ReceivedLaws.{deed-laws}
+use Rattle.receiving.proofs.received.do_pdu.Statement.{statement}
+use Rattle.receiving.proofs.received.do_pdu.Tie as tie
+
+pub do-pdu-spec : {M : Type 1} → statement M
+do-pdu-spec =
+    tie.close
+    (tie.spec
+    (λ c κs. search deed-laws)  -- on-pdu-requires
+    (λ c κs. search deed-laws)  -- write-ten-requires
+    (λ c κs. search deed-laws)  -- tells-requires
+    (λ c. search deed-laws)  -- same-length
+    (λ c. search deed-laws))  -- returns

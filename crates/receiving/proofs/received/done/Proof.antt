@@ -1,0 +1,14 @@
+-- `done` meets its contract.
+-- Assumes nothing.
+use Rattle.receiving.proofs.ReceivedLaws.{deed-laws}
+use Rattle.receiving.proofs.received.done.Statement.{statement}
+use Rattle.receiving.proofs.received.done.Tie as tie
+
+pub done-spec : {M : Type 1} → statement M
+done-spec =
+    tie.close
+    (tie.spec
+    (λ c κs. search deed-laws)  -- ten-by-requires
+    (λ c κs. search deed-laws)  -- shows-requires
+    (λ c κs. search deed-laws)  -- after-requires
+    (λ c. search deed-laws))  -- returns

@@ -1,0 +1,13 @@
+-- `event_of` meets its contract.
+-- Assumes nothing.
+use Rattle.receiving.proofs.ReceivedLaws.{deed-laws}
+use Rattle.receiving.proofs.received.event_of.Statement.{statement}
+use Rattle.receiving.proofs.received.event_of.Tie as tie
+
+pub event-of-spec : {M : Type 1} → statement M
+event-of-spec =
+    tie.close
+    (tie.spec
+    (λ c κs. search deed-laws)  -- kind-of-requires
+    (λ c κs. search deed-laws)  -- event-of-kind-requires
+    (λ c. search deed-laws))  -- returns

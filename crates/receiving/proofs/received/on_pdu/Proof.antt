@@ -1,0 +1,17 @@
+-- `on_pdu` meets its contract.
+-- Assumes nothing.
+use Rattle.receiving.proofs.ReceivedLaws.{deed-laws}
+use Rattle.receiving.proofs.received.on_pdu.Statement.{statement}
+use Rattle.receiving.proofs.received.on_pdu.Tie as tie
+
+pub on-pdu-spec : {M : Type 1} → statement M
+on-pdu-spec =
+    tie.close
+    (tie.spec
+    (λ c κs. search deed-laws)  -- event-of-requires
+    (λ c κs. search deed-laws)  -- cell-requires
+    (λ c κs. search deed-laws)  -- brings-pdu-requires
+    (λ c κs. search deed-laws)  -- byte-at-requires
+    (λ c κs. search deed-laws)  -- abort-for-requires
+    (λ c κs. search deed-laws)  -- done-requires
+    (λ c. search deed-laws))  -- returns

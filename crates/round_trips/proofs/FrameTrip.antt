@@ -1,0 +1,168 @@
+-- The frame of an RQ and an AC, walked over: its parts stand where reading looks for them, and its items are good.
+-- Assumes nothing.
+use Prim.Native.Nat.{ℕ, _+_, _≤_, _<_}
+use native.Mathlib.Omega.{arith}
+use mathlib.Core.Bool.{Bool, true, false, or-true}
+use mathlib.Core.List.{List, [], _∷_, _++_, map, append-nil}
+use mathlib.Core.Path.{_≡_, refl, sym, ap, _∙_}
+use lib.ListN.{length, take, drop, replicate, length-append}
+use lib.Seq.{take-at, drop-at}
+use lib.Dec.{leb, eqb}
+use borrow.Author.Tests.{le-leb, eq-eqb}
+use Rattle.laws.specs.Lists.{all, among, distinct, joined}
+use Rattle.laws.proofs.Booleans.{both-of}
+use Rattle.octets.specs.Octets.{be16, be32}
+use Rattle.names.specs.Name.{nameOk}
+use Rattle.items.specs.Items.{Walk, done, item, step, walkIn, walk, filled, bodies, first, place, types, only, goodBodies, holds}
+use Rattle.items.specs.Wire.{itemBytes, itemsBytes}
+use Rattle.items.proofs.WireLaws.{item-length, walk-item, walk-last, run, walk-items, bodies-run, bodies-past, written}
+use Rattle.contents.specs.Contents.{topKnown, one, userGood, good50H, contextGood, topGood, topOrder, topOk, bodyId, ids, itemsOk, maximumIn}
+use Rattle.judging.specs.Pdu.{typeOf, pduLength, versionOf, topItems, whole}
+use Rattle.writing.specs.Wire.{pduBytes, AssociatePdu, associateItems, associateBytes, ourUser}
+
+-- ---- a PDU with its PDU-length: at most 16,384, it is whole
+module _ (kind : ℕ) (body : List ℕ) where
+  pub pdu-long : length (pduBytes kind body) ≡ length body + 6
+  unfolding pduBytes
+  pdu-long = omega arith
+
+  pub pdu-number : pduLength (pduBytes kind body) ≡ length body
+  unfolding pduBytes be32 be16
+  pdu-number = omega arith
+
+  pub pdu-whole : length body ≤ 16384 → whole (pduBytes kind body) ≡ true
+  unfolding whole
+  pdu-whole h =
+      let l = pdu-long in
+      let n = pdu-number in
+      both-of _ _ (eq-eqb (length (pduBytes kind body)) (6 + pduLength (pduBytes kind body)) (omega arith)) (le-leb (pduLength (pduBytes kind body)) 16384 (omega arith))
+
+-- the user information that we send
+user-good : good50H (joined ourUser) ≡ true
+unfolding good50H userGood one filled bodies goodBodies walk walkIn step ourUser itemBytes be16
+user-good = refl
+
+user-small : length (joined ourUser) ≡ 8
+unfolding ourUser itemBytes
+user-small = refl
+
+-- ---- a 10H, contexts of type k and our 50H
+module _ (k : ℕ) (b : eqb 0x10 k ≡ false) (c : eqb 0x50 k ≡ false) where
+  top-bodies : (x : List ℕ) (bs : List (List ℕ)) (u : List ℕ) → bodies k (item 0x10 x (run k bs (item 0x50 u done))) ≡ bs
+  unfolding bodies
+  top-bodies x bs u = rw b (bodies-run k bs (item 0x50 u done) ∙ rw c (append-nil bs))
+
+  context-good : eqb k 0x10 ≡ false → (x : List ℕ) → topGood k k x ≡ contextGood k x
+  unfolding topGood
+  context-good a x = simp (a, eq-eqb k k refl)
+
+  top-good : eqb k 0x10 ≡ false → (bs : List (List ℕ)) → all (contextGood k) bs ≡ true → all (topGood k k) bs ≡ true
+  top-good a bs q = ap (λ (p : List ℕ → Bool). all p bs) (λ i x. context-good a x i) ∙ q
+
+  top-held : eqb k 0x10 ≡ false → (x : List ℕ) (bs : List (List ℕ)) → nameOk x ≡ true → all (contextGood k) bs ≡ true
+      → holds (topKnown k) (topGood k) (topOrder k (length bs)) (item 0x10 x (run k bs (item 0x50 (joined ourUser) done))) ≡ true
+  unfolding topGood goodBodies bodies filled types only among
+  top-held a x bs n q =
+      let i : among k (topKnown k) ≡ true = rw (eq-eqb k k refl) (or-true (eqb k 0x10)) in
+      let o : only (topKnown k) (types (item 0x50 (joined ourUser) done)) ≡ 0x50 ∷ [] = rw c in
+      let g : goodBodies (topKnown k) (topGood k) (item 0x50 (joined ourUser) done) ≡ true = rw (c, user-good) in
+      let h = written (topKnown k) (topGood k) 0x10 k x bs (item 0x50 (joined ourUser) done) refl i n (top-good a bs q) refl g in
+      ap (λ (l : List ℕ). holds (topKnown k) (topGood k) (0x10 ∷ (replicate (length bs) k ++ l)) (item 0x10 x (run k bs (item 0x50 (joined ourUser) done)))) (sym o) ∙ h
+
+  top-written : eqb k 0x10 ≡ false → (x : List ℕ) (bs : List (List ℕ)) → nameOk x ≡ true → leb 1 (length bs) ≡ true → all (contextGood k) bs ≡ true → topOk k (item 0x10 x (run k bs (item 0x50 (joined ourUser) done))) ≡ true
+  unfolding topOk
+  top-written a x bs n p q = rw (top-bodies x bs (joined ourUser)) (both-of _ _ p (top-held a x bs n q))
+
+-- ---- a frame that fits: k is the type of its contexts
+pub record Fits (f : AssociatePdu) : Type 0 where
+  pub middle : length (f .middle) ≡ 64
+  pub limit : length (associateBytes f) ≤ 16390
+  pub user : f .user ≡ ourUser
+
+module _ (f : AssociatePdu) (w : Fits f) where
+  frame-size : length (associateBytes f) ≡ length (associateItems f) + 74
+  unfolding associateBytes pduBytes
+  frame-size = let a = w .middle in let l = length-append (f .middle) (associateItems f) in omega arith
+
+  items-size : length (associateItems f) ≡ 4 + length (f .application) + (length (itemsBytes (f .context) (f .bodies)) + (4 + length (joined (f .user))))
+  unfolding associateItems
+  items-size = simp (length-append, item-length)
+
+  pub items-small : length (itemsBytes (f .context) (f .bodies)) < 65536
+  items-small = let a = frame-size in let b = items-size in let c = w .limit in omega arith
+
+  name-small : length (f .application) < 65536
+  name-small = let a = frame-size in let b = items-size in let c = w .limit in omega arith
+
+  last-small : length (joined (f .user)) < 65536
+  last-small = let a = frame-size in let b = items-size in let c = w .limit in omega arith
+
+  -- where the parts stand
+  pub frame-kind : typeOf (associateBytes f) ≡ f .kind
+  unfolding associateBytes pduBytes
+  frame-kind = refl
+
+  pub frame-version : versionOf (associateBytes f) ≡ 1
+  unfolding associateBytes pduBytes be16
+  frame-version = refl
+
+  pub frame-whole : whole (associateBytes f) ≡ true
+  unfolding associateBytes
+  frame-whole =
+      let body : List ℕ = 0 ∷ 1 ∷ 0 ∷ 0 ∷ (f .middle ++ associateItems f) in
+      let l = pdu-long (f .kind) (0 ∷ 1 ∷ 0 ∷ 0 ∷ (f .middle ++ associateItems f)) in
+      let c = w .limit in
+      pdu-whole (f .kind) (0 ∷ 1 ∷ 0 ∷ 0 ∷ (f .middle ++ associateItems f)) (omega arith)
+
+  pub frame-68 : leb 68 (pduLength (associateBytes f)) ≡ true
+  unfolding associateBytes
+  frame-68 =
+      let n = pdu-number (f .kind) (0 ∷ 1 ∷ 0 ∷ 0 ∷ (f .middle ++ associateItems f)) in
+      let a = w .middle in
+      let l = length-append (f .middle) (associateItems f) in
+      le-leb 68 (pduLength (associateBytes f)) (omega arith)
+
+  pub at-middle : take 64 (drop 10 (associateBytes f)) ≡ f .middle
+  unfolding associateBytes pduBytes
+  at-middle = take-at (f .middle) (associateItems f) 64 (w .middle)
+
+  pub at-items : topItems (associateBytes f) ≡ associateItems f
+  unfolding associateBytes pduBytes
+  at-items = drop-at (f .middle) (associateItems f) 64 (w .middle)
+
+  -- the items
+  pub walked : walk (topItems (associateBytes f)) ≡ item 0x10 (f .application) (run (f .context) (f .bodies) (item 0x50 (joined (f .user)) done))
+  unfolding associateItems
+  walked =
+      ap walk at-items
+      ∙ (walk-item 0x10 (f .application) (itemsBytes (f .context) (f .bodies) ++ itemBytes 0x50 (joined (f .user))) name-small
+      ∙ ap (item 0x10 (f .application)) (walk-items (f .context) (f .bodies) (itemBytes 0x50 (joined (f .user))) items-small ∙ ap (run (f .context) (f .bodies)) (walk-last 0x50 (joined (f .user)) last-small)))
+
+  pub at-application : first (bodies 0x10 (walk (topItems (associateBytes f)))) ≡ f .application
+  unfolding bodies
+  at-application = ap (λ (v : Walk). first (bodies 0x10 v)) walked
+
+  pub at-place : place 0x10 (walk (topItems (associateBytes f))) ≡ 4
+  unfolding place
+  at-place = ap (place 0x10) walked
+
+  module _ (a : eqb 0x10 (f .context) ≡ false) (b : eqb 0x50 (f .context) ≡ false) where
+    pub at-bodies : bodies (f .context) (walk (topItems (associateBytes f))) ≡ f .bodies
+    at-bodies =
+        ap (bodies (f .context)) walked ∙ top-bodies (f .context) a b (f .application) (f .bodies) (joined (f .user))
+
+  pub at-maximum : eqb (f .context) 0x50 ≡ false → maximumIn (topItems (associateBytes f)) ≡ 16384
+  unfolding maximumIn bodies walk walkIn step ourUser itemBytes be16 be32
+  at-maximum c =
+      let u : first (bodies 0x50 (walk (topItems (associateBytes f)))) ≡ joined ourUser
+      = ap (λ (v : Walk). first (bodies 0x50 v)) walked ∙ (ap first (bodies-past 0x50 (f .context) (f .bodies) (item 0x50 (joined (f .user)) done) c) ∙ ap joined (w .user)) in
+      ap (λ (x : List ℕ). be32 (first (bodies 0x51 (walk x))) 0) u
+
+  -- "one 10H, one or more contexts .. one 50H", no ID twice
+  pub frame-items-ok : eqb (f .context) 0x10 ≡ false → eqb 0x10 (f .context) ≡ false → eqb 0x50 (f .context) ≡ false → nameOk (f .application) ≡ true → leb 1 (length (f .bodies)) ≡ true
+      → all (contextGood (f .context)) (f .bodies) ≡ true → distinct (map bodyId (f .bodies)) ≡ true → itemsOk (f .context) (topItems (associateBytes f)) ≡ true
+  unfolding itemsOk ids
+  frame-items-ok a b c n p q d =
+      let z : item 0x10 (f .application) (run (f .context) (f .bodies) (item 0x50 (joined (f .user)) done)) ≡ item 0x10 (f .application) (run (f .context) (f .bodies) (item 0x50 (joined ourUser) done)) = ap (λ (u : List (List ℕ)). item 0x10 (f .application) (run (f .context) (f .bodies) (item 0x50 (joined u) done))) (w .user) in
+      both-of _ _ (ap (topOk (f .context)) (walked ∙ z) ∙ top-written (f .context) b c a (f .application) (f .bodies) n p q)
+      (ap (λ (l : List (List ℕ)). distinct (map bodyId l)) (at-bodies b c) ∙ d)

@@ -1,0 +1,141 @@
+-- The round trip over the calls themselves: whatever a writer's contract permits it to send, whatever a reader's contract permits it to answer of those bytes is the same fields.
+use Prim.Native.Nat.{ℕ, _≤_, _<_}
+use mathlib.Core.Path.{_≡_}
+use mathlib.Core.List.{List, []}
+use lib.ListN.{length, take, drop}
+use contract.Lifetimes.{Lfts}
+use denote.Ref.{now}
+use denote.Triple.Clauses.{AtExit}
+use borrow.Fn.Kinds.{PK, RK, Dens, resT, endedOf, Out}
+use Rattle.octets.specs.Slice.{PartOf}
+use Rattle.pdvs.specs.Data.{Pdv}
+use Rattle.judging.specs.Pdu.{calledOf, callingOf}
+use Rattle.judging.proofs.kind_of as kind-of
+use Rattle.reading.specs.Data.{pdv, startOf}
+use Rattle.reading.specs.declared.associate.Associate.{Associate}
+use Rattle.reading.proofs.read_request as read-request
+use Rattle.reading.proofs.read_accept as read-accept
+use Rattle.reading.proofs.read_reject as read-reject
+use Rattle.reading.proofs.read_abort as read-abort
+use Rattle.reading.proofs.read_data as read-data
+use Rattle.reading.proofs.fragment as fragment
+use Rattle.writing.specs.Fields.{RqFields, AcFields, Reject, Abort}
+use Rattle.writing.specs.declared.Sent.{Sent}
+use Rattle.writing.proofs.write_reject as write-reject
+use Rattle.writing.proofs.write_data as write-data
+use Rattle.writing.proofs.write_release_request as write-release-request
+use Rattle.writing.proofs.write_release_response as write-release-response
+use Rattle.writing.proofs.write_abort as write-abort
+use Rattle.writing_associate.proofs.write_request as write-request
+use Rattle.writing_associate.proofs.write_accept as write-accept
+use Rattle.round_trips.specs.Trips.{readOf, pdvRead, pastLast}
+
+-- a call that a function's contract permits, as the checker reads the contract (`Post` of the function's `Reads`): what was given, the answer, and what was lent as the call leaves it
+pub record Permitted (n : ℕ) (ps : List (PK n)) (r : RK n) (Post : Out n ps r) : Type 0 where
+  pub lifetimes : Lfts n
+  pub given : Dens lifetimes ps
+  pub answer : resT r lifetimes .Denot
+  pub left : AtExit (endedOf n ps r) lifetimes
+  pub permitted : Post lifetimes given answer left
+
+-- ---- the calls, each with the places of its arguments
+-- called, calling, application, sheet, out
+abbrev pub WriteRequest : Type 0
+WriteRequest = Permitted 5 write-request.Kinds.ps write-request.Kinds.r write-request.Reads.Post
+
+-- echoed, application, sheet, out
+abbrev pub WriteAccept : Type 0
+WriteAccept = Permitted 4 write-accept.Kinds.ps write-accept.Kinds.r write-accept.Reads.Post
+
+-- result, source, reason, out
+abbrev pub WriteReject : Type 0
+WriteReject = Permitted 1 write-reject.Kinds.ps write-reject.Kinds.r write-reject.Reads.Post
+
+-- items, peer, out
+abbrev pub WriteData : Type 0
+WriteData = Permitted 2 write-data.Kinds.ps write-data.Kinds.r write-data.Reads.Post
+
+-- out
+abbrev pub WriteReleaseRequest : Type 0
+WriteReleaseRequest = Permitted 1 write-release-request.Kinds.ps write-release-request.Kinds.r write-release-request.Reads.Post
+
+-- out
+abbrev pub WriteReleaseResponse : Type 0
+WriteReleaseResponse = Permitted 1 write-release-response.Kinds.ps write-release-response.Kinds.r write-release-response.Reads.Post
+
+-- source, reason, out
+abbrev pub WriteAbort : Type 0
+WriteAbort = Permitted 1 write-abort.Kinds.ps write-abort.Kinds.r write-abort.Reads.Post
+
+-- pdu
+abbrev pub KindOf : Type 0
+KindOf = Permitted 1 kind-of.Kinds.ps kind-of.Kinds.r kind-of.Reads.Post
+
+-- pdu, sheet
+abbrev pub ReadRequest : Type 0
+ReadRequest = Permitted 2 read-request.Kinds.ps read-request.Kinds.r read-request.Reads.Post
+
+abbrev pub ReadAccept : Type 0
+ReadAccept = Permitted 2 read-accept.Kinds.ps read-accept.Kinds.r read-accept.Reads.Post
+
+-- pdu
+abbrev pub ReadReject : Type 0
+ReadReject = Permitted 1 read-reject.Kinds.ps read-reject.Kinds.r read-reject.Reads.Post
+
+abbrev pub ReadAbort : Type 0
+ReadAbort = Permitted 1 read-abort.Kinds.ps read-abort.Kinds.r read-abort.Reads.Post
+
+-- pdu, number
+abbrev pub ReadData : Type 0
+ReadData = Permitted 1 read-data.Kinds.ps read-data.Kinds.r read-data.Reads.Post
+
+abbrev pub Fragment : Type 0
+Fragment = Permitted 1 fragment.Kinds.ps fragment.Kinds.r fragment.Reads.Post
+
+-- what a writing call sent, of the output that it left
+abbrev pub bytesWritten : Sent → List ℕ → List ℕ
+bytesWritten r out = take (r .count) out
+
+-- ---- bytes that are read back
+-- `kind_of` answers this kind
+abbrev pub Judged : List ℕ → ℕ → Type 0
+Judged pdu k = (c : KindOf) → now (c .given .0) ≡ pdu → c .answer ≡ k
+
+-- reading an RQ or AC into the sheet s, which is then s′, answered r: the same application name, and the same sheet at the start of s′ with nothing changed behind it
+pub record SameFields (application sheet pdu s : List ℕ) (r : Associate) (s′ : List ℕ) : Type 0 where
+  pub answer : r ≡ readOf application sheet
+  pub name : take (r .«application_len») (drop (r .«application_at») pdu) ≡ application
+  pub start : take (length sheet) s′ ≡ sheet
+  pub behind : drop (length sheet) s′ ≡ drop (length sheet) s
+
+-- as an RQ with the fields f, the titles at their fixed places
+pub record RequestBack (f : RqFields) (pdu : List ℕ) : Type 0 where
+  pub kind : Judged pdu 1
+  pub called : calledOf pdu ≡ f .called
+  pub calling : callingOf pdu ≡ f .calling
+  pub read : (c : ReadRequest) → now (c .given .0) ≡ pdu → length (f .sheet) ≤ length (now (c .given .1 .0))
+      → SameFields (f .application) (f .sheet) pdu (now (c .given .1 .0)) (c .answer) (now (c .left .1 .0))
+
+-- as an AC with the fields f, the echoed bytes at their fixed place
+pub record AcceptBack (f : AcFields) (pdu : List ℕ) : Type 0 where
+  pub kind : Judged pdu 2
+  pub echoed : take 64 (drop 10 pdu) ≡ f .echoed
+  pub read : (c : ReadAccept) → now (c .given .0) ≡ pdu → length (f .sheet) ≤ length (now (c .given .1 .0))
+      → SameFields (f .application) (f .sheet) pdu (now (c .given .1 .0)) (c .answer) (now (c .left .1 .0))
+
+-- as an RJ and an ABORT with the values f
+pub record RejectBack (f : Reject) (pdu : List ℕ) : Type 0 where
+  pub kind : Judged pdu 3
+  pub read : (c : ReadReject) → now (c .given .0) ≡ pdu → c .answer ≡ record { refusal = 0; result = f .result; source = f .source; reason = f .reason }
+
+pub record AbortBack (f : Abort) (pdu : List ℕ) : Type 0 where
+  pub kind : Judged pdu 7
+  pub read : (c : ReadAbort) → now (c .given .0) ≡ pdu → c .answer ≡ record { refusal = 0; source = f .source; reason = f .reason }
+
+-- as a P-DATA-TF of the PDVs ps: each by its number, its fragment the caller's own part; refusal 4 and the empty part past the last
+pub record DataBack (ps : List Pdv) (pdu : List ℕ) : Type 0 where
+  pub kind : Judged pdu 4
+  pub read : (c : ReadData) → now (c .given .0) ≡ pdu → c .given .1 .0 < length ps → c .answer ≡ pdvRead ps (c .given .1 .0)
+  pub past : (c : ReadData) → now (c .given .0) ≡ pdu → length ps ≤ c .given .1 .0 → c .answer ≡ pastLast
+  pub own : (c : Fragment) → now (c .given .0) ≡ pdu → c .given .1 .0 < length ps → PartOf (c .given .0) (startOf ps (c .given .1 .0)) (pdv ps (c .given .1 .0) .fragment) (c .answer)
+  pub none : (c : Fragment) → now (c .given .0) ≡ pdu → length ps ≤ c .given .1 .0 → PartOf (c .given .0) 0 [] (c .answer)

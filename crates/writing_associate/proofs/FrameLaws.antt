@@ -1,0 +1,210 @@
+-- Laws of the frame of an A-ASSOCIATE-RQ and -AC: its parts, its length, and what the calls that write one answer.
+-- Assumes nothing.
+use Prim.Native.Nat.{ℕ, _+_, _≤_, _<_}
+use native.Mathlib.Omega.{arith}
+use mathlib.Core.Bool.{Bool, true, false, cond}
+use mathlib.Core.List.{List, [], _∷_, _++_, map, append-assoc}
+use mathlib.Core.Path.{_≡_, refl, sym, ap, _∙_}
+use lib.ListN.{length, getD, length-append}
+use lib.Dec.{leb}
+use borrow.Author.Needs.{needs}
+use borrow.Author.Tests.{leb-false}
+use Rattle.laws.specs.Lists.{joined}
+use Rattle.octets.specs.Octets.{four}
+use Rattle.names.proofs.NameLaws.{name-short}
+use Rattle.items.specs.Wire.{itemBytes, itemsBytes}
+use Rattle.items.proofs.WireLaws.{item-length}
+use Rattle.sheets.specs.Contexts.{Context}
+use Rattle.sheets.specs.Sheet.{contextsIn}
+use Rattle.writing.specs.Wire.{pduBytes, associateItems, associateBytes, ourUser, contextBody}
+use Rattle.writing.specs.Form.{Wrote}
+use Rattle.writing.specs.Private.Put.{Put}
+use Rattle.writing_associate.specs.Private.Frames.{openBytes, contextBytes, capped, base, frameOf, frameForm, itemPart, fixedPart, Fit, Measured}
+use Rattle.writing.proofs.PutLaws.{next-room, next-put}
+use Rattle.writing.proofs.FormLaws.{wrote-long, wrote-short, wrote-fine}
+
+-- ---- `user`, `base`
+pub user-is : 0x51 ∷ 0 ∷ 0 ∷ 4 ∷ 0 ∷ 0 ∷ 0x40 ∷ 0 ∷ [] ≡ joined ourUser
+unfolding ourUser itemBytes
+user-is = refl
+
+pub user-eight : length (joined ourUser) ≡ 8
+user-eight = ap length (sym user-is)
+
+pub base-is : (a : List ℕ) → 68 + (4 + length a) + 12 ≡ base a (joined ourUser)
+unfolding base
+base-is a = let u = user-eight in omega arith
+
+pub ruleset base-laws = (needs, user-is, base-is)
+
+-- ---- `put_fixed`
+abbrev fixed-head : ℕ → List ℕ → List ℕ
+fixed-head kind l = kind ∷ 0 ∷ getD l 0 0 ∷ getD l 1 0 ∷ getD l 2 0 ∷ getD l 3 0 ∷ 0 ∷ 1 ∷ 0 ∷ 0 ∷ []
+
+pub fixed-put : (o l o₁ o₂ middle : List ℕ) (kind n a r : ℕ) → 74 ≤ length o → length middle ≡ 64 → l ≡ four n
+    → Put o 0 (kind ∷ 0 ∷ getD l 0 0 ∷ getD l 1 0 ∷ getD l 2 0 ∷ getD l 3 0 ∷ 0 ∷ 1 ∷ 0 ∷ 0 ∷ []) a o₁ → Put o₁ a middle r o₂ → Put o 0 (fixedPart kind n middle) r o₂
+unfolding fixedPart
+fixed-put o l o₁ o₂ middle kind n a r h m e p q =
+    let all : Put o 0 (fixed-head kind l ++ middle) r o₂ = next-put o (fixed-head kind l) middle o₁ 0 a p (omega arith) o₂ r q in
+    rw e at all
+
+pub ruleset fixed-laws = (needs, fixed-put)
+
+-- ---- `put_items`
+part-is : (k : Bool) (a s : List ℕ) → length (itemPart k a s) ≡ 4 + length a + (length (contextBytes k false s 0) + 12)
+unfolding itemPart
+part-is k a s = let u = user-eight in let l : length (itemPart k a s) ≡ 4 + length a + (length (contextBytes k false s 0) + (4 + length (joined ourUser))) = simp (length-append, item-length) in omega arith
+
+module _ (k : Bool) (o a s : List ℕ) (at : ℕ) (h : at + length (itemPart k a s) ≤ length o) (m : length (itemPart k a s) ≤ 16384) where
+  pub items-room-1 : at + 4 + length a ≤ length o
+  items-room-1 = let l = part-is k a s in omega arith
+
+  pub items-name : length a < 65536
+  items-name = let l = part-is k a s in omega arith
+
+  pub items-small : length (contextBytes k false s 0) ≤ 16384
+  items-small = let l = part-is k a s in omega arith
+
+  module _ (o₁ : List ℕ) (i : ℕ) (p : Put o at (itemBytes 0x10 a) i o₁) where
+    first-two : at + (length (itemBytes 0x10 a) + length (contextBytes k false s 0)) ≤ length o
+    first-two = let l = part-is k a s in let n = item-length 0x10 a in omega arith
+
+    pub items-room-2 : i + length (contextBytes k false s 0) ≤ length o₁
+    items-room-2 = next-room o (itemBytes 0x10 a) (contextBytes k false s 0) o₁ at i p first-two
+
+    module _ (o₂ : List ℕ) (j : ℕ) (q : Put o₁ i (contextBytes k false s 0) j o₂) where
+      two-put : Put o at (itemBytes 0x10 a ++ contextBytes k false s 0) j o₂
+      two-put = next-put o (itemBytes 0x10 a) (contextBytes k false s 0) o₁ at i p first-two o₂ j q
+
+      all-three : at + (length (itemBytes 0x10 a ++ contextBytes k false s 0) + length (itemBytes 0x50 (joined ourUser))) ≤ length o
+      all-three =
+          let l = part-is k a s in
+          let n = item-length 0x10 a in
+          let u = item-length 0x50 (joined ourUser) in
+          let e = user-eight in
+          let c = length-append (itemBytes 0x10 a) (contextBytes k false s 0) in
+          omega arith
+
+      pub items-room-3 : (v : List ℕ) → v ≡ joined ourUser → j + 4 + length v ≤ length o₂
+      items-room-3 v f =
+          let u = item-length 0x50 (joined ourUser) in
+          let e = user-eight in
+          let r = next-room o (itemBytes 0x10 a ++ contextBytes k false s 0) (itemBytes 0x50 (joined ourUser)) o₂ at j two-put all-three in
+          let d = ap length f in
+          omega arith
+
+      pub items-put : (u o₃ : List ℕ) (r : ℕ) → u ≡ joined ourUser → Put o₂ j (itemBytes 0x50 u) r o₃ → Put o at (itemPart k a s) r o₃
+      unfolding itemPart
+      items-put u o₃ r e t =
+          let all : Put o at ((itemBytes 0x10 a ++ contextBytes k false s 0) ++ itemBytes 0x50 (joined ourUser)) r o₃
+          = next-put o (itemBytes 0x10 a ++ contextBytes k false s 0) (itemBytes 0x50 (joined ourUser)) o₂ at j two-put all-three o₃ r (rw e at t) in
+          rw (append-assoc (itemBytes 0x10 a) (contextBytes k false s 0) (itemBytes 0x50 (joined ourUser))) at all
+
+pub user-small : (v : List ℕ) → v ≡ joined ourUser → length v < 65536
+user-small v f = let d = ap length f in let e = user-eight in omega arith
+
+pub ruleset items-laws = (needs, items-room-1, items-name, items-small, items-room-2, items-room-3, user-small, items-put)
+
+-- ---- the frame is its fixed part and its items
+open-all : (cs : List Context) → openBytes false cs ≡ itemsBytes 0x20 (map contextBody cs)
+unfolding openBytes
+open-all [] = refl
+open-all (c ∷ cs) = refl
+
+frame-items : (k : Bool) (middle a s : List ℕ) → associateItems (frameOf k middle a s) ≡ itemPart k a s
+unfolding associateItems frameOf itemPart contextBytes
+frame-items true middle a s = refl
+frame-items false middle a s = rw (open-all (contextsIn s))
+
+pub frame-parts : (k : Bool) (middle a s : List ℕ) (n : ℕ) → length middle ≡ 64 → n ≡ 68 + length (itemPart k a s) → associateBytes (frameOf k middle a s) ≡ fixedPart (cond k 0x02 0x01) n middle ++ itemPart k a s
+unfolding associateBytes pduBytes fixedPart frameOf
+frame-parts k middle a s n l e =
+    let i = frame-items k middle a s in
+    let b : length (0 ∷ 1 ∷ 0 ∷ 0 ∷ (middle ++ associateItems (frameOf k middle a s))) ≡ n = (let c = length-append middle (associateItems (frameOf k middle a s)) in let d = ap length i in omega arith) in
+    rw (b, i)
+
+fixed-long : (kind n : ℕ) (middle : List ℕ) → length middle ≡ 64 → length (fixedPart kind n middle) ≡ 74
+unfolding fixedPart
+fixed-long kind n middle l = omega arith
+
+pub frame-long : (k : Bool) (middle a s : List ℕ) → length middle ≡ 64 → length (associateBytes (frameOf k middle a s)) ≡ base a (joined ourUser) + length (contextBytes k false s 0) + 6
+unfolding base
+frame-long k middle a s l =
+    let n : ℕ = 68 + length (itemPart k a s) in
+    let e = ap length (frame-parts k middle a s n l refl) in
+    let c = length-append (fixedPart (cond k 0x02 0x01) n middle) (itemPart k a s) in
+    let f = fixed-long (cond k 0x02 0x01) n middle l in
+    let p = part-is k a s in
+    let u = user-eight in
+    omega arith
+
+-- ---- `put_frame`
+module _ (k : Bool) (o middle a s : List ℕ) (n : ℕ) (w : Measured k middle a s n (length o)) where
+  size-is : n ≡ 68 + length (itemPart k a s)
+  unfolding base
+  size-is = let z = w .size in let p = part-is k a s in let u = user-eight in omega arith
+
+  pub frame-fixed : 74 ≤ length o
+  frame-fixed = let z = size-is in let r = w .room in omega arith
+
+  pub frame-small : length (itemPart k a s) ≤ 16384
+  frame-small = let z = size-is in let r = w .limit in omega arith
+
+  module _ (o₁ : List ℕ) (i kind : ℕ) (e : kind ≡ cond k 0x02 0x01) (p : Put o 0 (fixedPart kind n middle) i o₁) where
+    both-parts : 0 + (length (fixedPart kind n middle) + length (itemPart k a s)) ≤ length o
+    both-parts = let z = size-is in let r = w .room in let f = fixed-long kind n middle (w .fit .middle-long) in omega arith
+
+    pub frame-room : i + length (itemPart k a s) ≤ length o₁
+    frame-room = next-room o (fixedPart kind n middle) (itemPart k a s) o₁ 0 i p both-parts
+
+    pub frame-put : (o₂ : List ℕ) (r : ℕ) → Put o₁ i (itemPart k a s) r o₂ → Put o 0 (associateBytes (frameOf k middle a s)) r o₂
+    frame-put o₂ r q =
+        let all = next-put o (fixedPart kind n middle) (itemPart k a s) o₁ 0 i p both-parts o₂ r q in
+        rw (frame-parts k middle a s n (w .fit .middle-long) size-is, ← e) all
+
+pub ruleset frame-laws = (needs, frame-fixed, frame-small, frame-room, frame-put)
+
+-- ---- `write_frame`
+capped-over : (n x : ℕ) → n ≡ capped x → 16384 < n → 16384 < x
+unfolding capped
+capped-over n x e h = go (leb x 16384) refl
+  where
+    go : (b : Bool) → leb x 16384 ≡ b → 16384 < x
+    go true q = let z : n ≡ x = e ∙ simp q in omega arith
+    go false q = leb-false x 16384 q
+
+capped-is : (n x : ℕ) → n ≡ capped x → n ≤ 16384 → n ≡ x
+unfolding capped
+capped-is n x e h = go (leb x 16384) refl
+  where
+    go : (b : Bool) → leb x 16384 ≡ b → n ≡ x
+    go true q = e ∙ simp q
+    go false q = let z : n ≡ 16385 = e ∙ simp q in absurd (omega arith)
+
+pub fit-name : (middle a s : List ℕ) → Fit middle a s → length a ≤ 64
+fit-name middle a s f = f .name-short
+
+module _ (k : Bool) (o middle a s : List ℕ) (n b : ℕ) (f : Fit middle a s) (e : b ≡ base a (joined ourUser)) (g : n ≡ capped (b + length (contextBytes k false s 0))) where
+  long-is : length (associateBytes (frameOf k middle a s)) ≡ b + length (contextBytes k false s 0) + 6
+  long-is = frame-long k middle a s (f .middle-long) ∙ rw e
+
+  pub frame-over : 16384 < n → Wrote (frameForm k middle a s) o (record { refusal = 5; count = 0 }) o
+  unfolding frameForm
+  frame-over h = let x = capped-over n _ g h in let l = long-is in wrote-long (frameForm k middle a s) o refl (omega arith)
+
+  module _ (h : n ≤ 16384) where
+    fits : length (associateBytes (frameOf k middle a s)) ≡ n + 6
+    fits = let x = capped-is n _ g h in let l = long-is in omega arith
+
+    pub frame-short : length o < n + 6 → Wrote (frameForm k middle a s) o (record { refusal = 2; count = 0 }) o
+    unfolding frameForm
+    frame-short l = let x = fits in wrote-short (frameForm k middle a s) o refl (omega arith) (omega arith)
+
+    pub measured : n + 6 ≤ length o → Measured k middle a s n (length o)
+    measured l = record { fit = f; size = capped-is n _ g h ∙ rw e; limit = h; room = l }
+
+    pub frame-fine : (o′ : List ℕ) (r : ℕ) → n + 6 ≤ length o → Put o 0 (associateBytes (frameOf k middle a s)) r o′ → Wrote (frameForm k middle a s) o (record { refusal = 0; count = r }) o′
+    unfolding frameForm
+    frame-fine o′ r l p = let x = fits in wrote-fine (frameForm k middle a s) o refl (omega arith) o′ r (omega arith) p
+
+pub ruleset write-frame-laws = (needs, fit-name, frame-over, frame-short, measured, frame-fine)

@@ -1,0 +1,15 @@
+-- `put_step` meets its contract.
+-- Assumes nothing.
+use Rattle.writing_associate.proofs.ContextLaws.{step-laws}
+use Rattle.writing_associate.proofs.contexts.put_step.Statement.{statement}
+use Rattle.writing_associate.proofs.contexts.put_step.Tie as tie
+
+pub put-step-spec : {M : Type 1} → statement M
+put-step-spec =
+    tie.close
+    (tie.spec
+    (λ c κs. search step-laws)  -- put-lead-requires
+    (λ c κs. search step-laws)  -- transfer-at-requires
+    (λ c κs. search step-laws)  -- put-item-requires
+    (λ c. search step-laws)  -- same-length
+    (λ c. search step-laws))  -- returns
