@@ -43,6 +43,13 @@ def stands(name, file):
     return re.search(r"(?<![\w·-])" + re.escape(name) + r"(?![\w·-])", text) is not None
 
 
+def elsewhere(code, name, file):
+    """where else it stands, for the message: the files of crates/ that declare the name, or those that have the missing file's name"""
+    found = sorted(glob.glob("crates/**/*.antt", recursive=True) + glob.glob("crates/**/*.rt", recursive=True))
+    found = [f for f in found if stands(name, f)] if code else [f for f in found if os.path.basename(f) == os.path.basename(file)]
+    return f"; it stands in {', '.join(found)}" if 0 < len(found) < 4 else ""
+
+
 cited, wrong = 0, []
 for page in PAGES:
     with open(page, encoding="utf-8") as f:
@@ -53,9 +60,9 @@ for page in PAGES:
         file = os.path.normpath(os.path.join(os.path.dirname(page), path))
         cited += 1
         if not os.path.exists(file):
-            wrong.append(f"{page}: {path} is not there")
+            wrong.append(f"{page}: {path} is not there{elsewhere(code, name, file)}")
         elif code and os.path.isfile(file) and not stands(name, file):
-            wrong.append(f"{page}: {path} declares no `{name}`")
+            wrong.append(f"{page}: {path} declares no `{name}`{elsewhere(code, name, file)}")
 if not cited:
     wrong.append("nothing is cited")
 for line in wrong:
