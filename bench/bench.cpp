@@ -8,7 +8,6 @@
 #include <cstdio>
 #include <cstdlib>
 #include <cstring>
-#include <emmintrin.h>
 #include <functional>
 #include <string>
 #include <vector>
@@ -73,16 +72,18 @@ typedef void *(*Copy)(void *, const void *, size_t);
 
 static volatile Copy library = std::memcpy;
 
-// A copy by the instructions of every x86-64, which are all that the archive uses: two registers of 16 bytes a turn.
+typedef uint8_t Sixteen __attribute__((vector_size(16), aligned(1), may_alias));
+
+// A copy by the instructions that every machine of this kind has, which are all that feohanna uses: two registers of 16 bytes a turn.
 static void *plain(void *to, const void *from, size_t n)
 {
     uint8_t *t = (uint8_t *)to;
     const uint8_t *f = (const uint8_t *)from;
     size_t i = 0;
     for (; i + 32 <= n; i += 32) {
-        __m128i a = _mm_loadu_si128((const __m128i *)(f + i)), b = _mm_loadu_si128((const __m128i *)(f + i + 16));
-        _mm_storeu_si128((__m128i *)(t + i), a);
-        _mm_storeu_si128((__m128i *)(t + i + 16), b);
+        Sixteen a = *(const Sixteen *)(f + i), b = *(const Sixteen *)(f + i + 16);
+        *(Sixteen *)(t + i) = a;
+        *(Sixteen *)(t + i + 16) = b;
     }
     for (; i < n; i++)
         t[i] = f[i];

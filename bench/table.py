@@ -1,10 +1,16 @@
-"""Prints the ratios that bench/run measured as a table; with a folder as third word, stores the table there in BENCH.md and a plot beside it.
+"""Prints the ratios that bench/run measured as a table; with a folder as third word, stores the table there in BENCH.md, at its place for this kind of machine, and a plot beside it.
 
     table.py TIMES INSTRUCTIONS [DOCS]
 """
 import math
 import os
+import platform
 import sys
+
+MACHINE = {"x86_64": "x86-64", "aarch64": "Arm"}.get(platform.machine(), platform.machine())
+SAID = f"On {MACHINE}: " + (
+    "libfeohanna.a itself." if MACHINE == "x86-64" else "no archive of `rt staticlib`, which is for x86-64, but the LLVM module that it is compiled from, compiled for this machine, for measuring alone."
+)
 
 GROUPS = {
     "receive": "Receiving 64 P-DATA-TF PDUs of PDU-length 16,384",
@@ -12,8 +18,9 @@ GROUPS = {
     "write": "Writing it",
 }
 COLOURS = {"memcpy": "#4c78a8", "plain": "#9ecae9", "second": "#72b7b2", "dcmtk": "#e45756"}
-NAMES = {"memcpy": "memcpy", "plain": "a plain x86-64 copy", "second": "the second program", "dcmtk": "DCMTK"}
-BEGIN, END = "<!-- measured -->\n", "<!-- end -->\n"
+NAMES = {"memcpy": "memcpy", "plain": f"a plain {MACHINE} copy", "second": "the second program", "dcmtk": "DCMTK"}
+BEGIN, END = f"<!-- measured on {MACHINE} -->\n", "<!-- end -->\n"
+PLOT = "bench.svg" if MACHINE == "x86-64" else f"bench-{MACHINE.lower()}.svg"
 
 
 def rows(times, instructions):
@@ -29,7 +36,7 @@ def rows(times, instructions):
 
 
 def table(measured):
-    lines = ["| Call | Input | Against | Time, ratio | Instructions, ratio |", "|---|---|---|---|---|"]
+    lines = [SAID, "", "| Call | Input | Against | Time, ratio | Instructions, ratio |", "|---|---|---|---|---|"]
     for group, what, who, ratio, counted in measured:
         lines.append(f"| {group} | {what} | {NAMES[who]} | {ratio:.2f} | {f'{counted:.2f}' if counted else ''} |")
     return "\n".join(lines) + "\n"
@@ -59,10 +66,10 @@ def plot(measured):
     ticks = [10.0**k for k in range(math.ceil(math.log10(low)), math.floor(math.log10(high)) + 1)]
     grid = "".join(f'<line x1="{x(t):.1f}" x2="{x(t):.1f}" y1="30" y2="{y}" stroke="{"#333" if t == 1 else "#ddd"}"/>' for t in ticks)
     grid += "".join(f'<text x="{x(t):.1f}" y="{y + 14}" text-anchor="middle">{t:g}</text>' for t in ticks)
-    legend = "".join(
-        f'<rect x="{left + 150 * k}" y="8" width="11" height="11" fill="{COLOURS[who]}"/><text x="{left + 16 + 150 * k}" y="18">against {NAMES[who]}</text>'
-        for k, who in enumerate(COLOURS)
-    )
+    legend, at = "", 10
+    for who, colour in COLOURS.items():
+        legend += f'<rect x="{at}" y="8" width="11" height="11" fill="{colour}"/><text x="{at + 16}" y="18">against {NAMES[who]}</text>'
+        at += 100 + 7 * len(NAMES[who])
     return (
         f'<svg xmlns="http://www.w3.org/2000/svg" viewBox="0 0 780 {y + 44}" font-family="sans-serif" font-size="12">'
         f'<rect width="100%" height="100%" fill="white"/>{legend}{grid}{"".join(body)}'
@@ -76,11 +83,13 @@ def main():
     if len(sys.argv) > 3:
         path = os.path.join(sys.argv[3], "BENCH.md")
         text = open(path).read()
+        if text.count(BEGIN) != 1:
+            sys.exit(f"{path} has no place for the table: {BEGIN.strip()} .. {END.strip()}")
         before, rest = text.split(BEGIN)
-        after = rest.split(END)[1]
+        after = rest.split(END, 1)[1]
         with open(path, "w") as f:
             f.write(before + BEGIN + table(measured) + END + after)
-        with open(os.path.join(sys.argv[3], "bench.svg"), "w") as f:
+        with open(os.path.join(sys.argv[3], PLOT), "w") as f:
             f.write(plot(measured))
 
 
