@@ -1,7 +1,7 @@
-# The commands of README.md.
+# The commands of README.md and docs/ARCHITECTURE.md.
 SHELL := /bin/bash
 .SHELLFLAGS := -o pipefail -c
-.PHONY: run test fuzz bench
+.PHONY: run test fuzz bench pages
 
 # Proves, builds and runs the listen program on a real sender's request, and shows its lines.
 run:
@@ -22,3 +22,10 @@ fuzz:
 # Ratios to memcpy, to the second program and to DCMTK, for docs/BENCH.md.
 bench:
 	@bash bench/run
+
+# What is counted or drawn on the pages, written anew: the table of functions, the counts of definitions, the picture of the crates. Then whether every citation stands.
+pages:
+	@python3 tests/functions/functions.py --write
+	@python3 tests/promises/believed.py --write
+	@python3 tests/architecture/draw.py --write
+	@python3 tests/promises/cited.py
