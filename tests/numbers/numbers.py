@@ -1,7 +1,7 @@
 """Holds the numbers that have a name to one value: as a constant of the code, in the definitions (a dash for each underscore) and in include/feohanna.h (FEO_ before it).
 
-Where a crate has a name in both its code and its definitions, the values are equal; in numbers and table every name stands in both. The header's refusals and actions are those of
-the code, and so are its events but for the rows of received PDUs, which have other names there.
+Where a crate has a name in both its code and its definitions, the values are equal; refusals, kinds, lengths, actions and events stand in both. The header's refusals and actions are
+those of the code, and so are its events but for the rows of received PDUs, which have other names there.
 """
 import glob
 import re
@@ -10,6 +10,13 @@ import sys
 CONSTANT = re.compile(r"^\s*pub const ([A-Z][A-Z0-9_]*): \w+ = (0x[0-9a-fA-F]+|\d+);", re.M)
 DEFINED = re.compile(r"^abbrev pub ([A-Z][A-Z0-9-]*|····) : ℕ\n\1 = (0x[0-9a-fA-F]+|\d+)$", re.M)
 HEADER = "include/feohanna.h"
+BOTH = [
+    ("crates/numbers/src/refusals.rt", "crates/numbers/specs/Refusals.antt"),
+    ("crates/numbers/src/kinds.rt", "crates/numbers/specs/Kinds.antt"),
+    ("crates/numbers/src/lengths.rt", "crates/numbers/specs/Lengths.antt"),
+    ("crates/table/src/actions.rt", "crates/table/specs/ActionNames.antt"),
+    ("crates/table/src/events.rt", "crates/table/specs/EventNames.antt"),
+]
 
 
 def read(path):
@@ -46,10 +53,7 @@ def main():
         code[crate] = named(CONSTANT, glob.glob(f"crates/{crate}/src/**/*.rt", recursive=True))
         specs = named(DEFINED, glob.glob(f"crates/{crate}/specs/**/*.antt", recursive=True))
         same(f"crates/{crate}", code[crate], specs, "its definitions")
-        if crate in ("numbers", "table"):
-            for name in sorted(code[crate].keys() ^ specs.keys()):
-                wrong.append(f"crates/{crate}: {name} stands in its {'code' if name in code[crate] else 'definitions'} alone")
-    refusals, actions, events = (named(CONSTANT, [path]) for path in ("crates/numbers/src/refusals.rt", "crates/table/src/actions.rt", "crates/table/src/events.rt"))
+    refusals, actions, events = (named(CONSTANT, [path]) for path in (BOTH[0][0], BOTH[3][0], BOTH[4][0]))
     for what, ours in (("feo_refusal_number", refusals), ("feo_action_number", actions), ("feo_event_number", events)):
         theirs, received = enum(what)
         same("the code", ours, theirs, f"{HEADER}, {what}")
@@ -59,6 +63,10 @@ def main():
             wrong.append(f"{HEADER}, {what}: FEO_{name} has another name in the code")
     lengths = {name: int(value) for name, value in re.findall(r"^#define FEO_(\w+) (\d+)$", read(HEADER), re.M)}
     same("crates/numbers", code["numbers"], lengths, HEADER)
+    for source, definitions in BOTH:
+        ours, theirs = named(CONSTANT, [source]), named(DEFINED, [definitions])
+        for name in sorted(ours.keys() ^ theirs.keys()):
+            wrong.append(f"{name} stands in {source if name in ours else definitions}, and not in {definitions if name in ours else source}")
     for line in wrong:
         print(line)
     if wrong or not compared:
