@@ -227,26 +227,15 @@ pub fn sends(action: u8, accepts: bool) -> u8
 pub fn is_received(event: u8) -> bool
     ensures { λ r. ⌜ r ≡ isReceived event ⌝ }
 {
-    if event == AC_RECEIVED {
-        return true;
+    match event {
+        AC_RECEIVED => true,
+        RJ_RECEIVED => true,
+        RQ_RECEIVED => true,
+        DATA_RECEIVED => true,
+        RELEASE_RQ_RECEIVED => true,
+        RELEASE_RP_RECEIVED => true,
+        ABORT_RECEIVED => true,
+        INVALID_RECEIVED => true,
+        _ => false,
     }
-    if event == RJ_RECEIVED {
-        return true;
-    }
-    if event == RQ_RECEIVED {
-        return true;
-    }
-    if event == DATA_RECEIVED {
-        return true;
-    }
-    if event == RELEASE_RQ_RECEIVED {
-        return true;
-    }
-    if event == RELEASE_RP_RECEIVED {
-        return true;
-    }
-    if event == ABORT_RECEIVED {
-        return true;
-    }
-    event == INVALID_RECEIVED
 }
