@@ -4,13 +4,18 @@ use Prim.Native.Nat.{ℕ}
 use mathlib.Core.Bool.{true, not, _&&_}
 use mathlib.Core.List.{List, [], _∷_, _++_}
 use mathlib.Core.Path.{_≡_, refl}
-use Rattle.laws.specs.Lists.{all, among, distinct}
+use Rattle.laws.specs.Lists.{all, distinct}
 use Rattle.laws.specs.Text.{bytes}
-use Rattle.octets.specs.Octets.{be16}
+use Rattle.octets.specs.Octets.{be32}
 use Rattle.names.specs.Name.{nameOk}
-use Rattle.items.specs.Items.{step, walkIn, walk, filled, bodies, types, only, goodBodies, holds}
 use Rattle.items.specs.Wire.{itemBytes}
-use Rattle.contents.specs.Contents.{one, subsOk, good20H, transferItemOk, good21H, userGood, good50H, contextGood, topGood, topOk, ids, itemsOk}
+use Rattle.items.proofs.Examples.{items-open}
+use Rattle.contents.specs.Contents.{one, subsOk, good20H, transferItemOk, good21H, userGood, good50H, contextGood, topGood, topOk, ids, itemsOk, maximumIn}
+
+-- what the definitions of the items' rules compute with, by one name for an `unfolding` line
+unfoldable pub contents-open : Unit {0}
+unfolding items-open itemsOk topOk subsOk one good20H transferItemOk good21H userGood good50H contextGood topGood ids maximumIn nameOk distinct be32
+contents-open = tt
 
 -- an item of a type whose body is the name "1"
 abbrev named : ℕ → List ℕ
@@ -87,5 +92,5 @@ bad-answers =
     ∷ []
 
 pub judged : (all (itemsOk 0x20) good && (all (λ s. not (itemsOk 0x20 s)) bad && (all (itemsOk 0x21) good-answers && all (λ s. not (itemsOk 0x21 s)) bad-answers))) ≡ true
-unfolding itemsOk topOk subsOk one good20H transferItemOk good21H userGood good50H contextGood topGood ids step walkIn walk filled bodies types only goodBodies holds itemBytes nameOk be16 among distinct
+unfolding contents-open
 judged = refl

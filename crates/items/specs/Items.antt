@@ -1,11 +1,12 @@
 -- Items and sub-items: "then items that fill the rest exactly. An item is type, reserved, two-byte length, body; a remainder of 1 to 3 bytes is
 -- invalid. .. Every other type is skipped wherever it stands. The same filling and skipping holds inside items."
-use Prim.Native.Nat.{ℕ, zero, suc, _+_}
+use Prim.Native.Nat.{ℕ, _+_}
 use mathlib.Core.Bool.{Bool, true, false, _&&_, cond}
 use mathlib.Core.List.{List, [], _∷_}
 use lib.ListN.{length, take, drop, getD}
 use lib.Dec.{leb, eqb}
 use Rattle.laws.specs.Lists.{all, empty, among, sameBytes}
+use Rattle.laws.specs.Parts.{steps, partEnd}
 use Rattle.octets.specs.Octets.{be16}
 
 -- what stands in a holder: items, each a type and a body, up to the holder's very end (`done`) or to something that is no whole item (`broken`)
@@ -22,8 +23,7 @@ step go s =
 
 -- at most n steps
 unfoldable pub walkIn : ℕ → List ℕ → Walk
-walkIn zero s = cond (empty s) done broken
-walkIn (suc n) s = step (walkIn n) s
+walkIn = steps step (λ s. cond (empty s) done broken)
 
 -- the items of a holder's bytes: `walk s ≡ step walk s` (WalkLaws.walk-step)
 unfoldable pub walk : List ℕ → Walk
@@ -71,5 +71,5 @@ unfoldable pub holds : List ℕ → (ℕ → List ℕ → Bool) → List ℕ →
 holds known good order w = filled w && (sameBytes (only known (types w)) order && goodBodies known good w)
 
 -- the place behind the item at a place, or 0 where no whole item stands there
-unfoldable pub itemEnd : List ℕ → ℕ → ℕ
-itemEnd s at = cond (leb (at + 4 + be16 s (at + 2)) (length s)) (at + 4 + be16 s (at + 2)) 0
+abbrev pub itemEnd : List ℕ → ℕ → ℕ
+itemEnd s at = partEnd 0 s at (be16 s (at + 2))

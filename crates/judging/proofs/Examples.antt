@@ -6,15 +6,12 @@ use mathlib.Core.List.{List, [], _∷_, _++_}
 use mathlib.Core.Path.{_≡_, refl}
 use lib.ListN.{length, take, replicate}
 use lib.Dec.{eqb}
-use Rattle.laws.specs.Lists.{among, distinct}
 use Rattle.laws.specs.Text.{bytes}
-use Rattle.octets.specs.Octets.{two, four, be16, be32}
-use Rattle.names.specs.Name.{nameOk}
+use Rattle.octets.specs.Octets.{two, four}
 use Rattle.titles.specs.Title.{titleOk}
-use Rattle.items.specs.Items.{step, walkIn, walk, filled, bodies, types, only, goodBodies, holds}
 use Rattle.items.specs.Wire.{itemBytes}
-use Rattle.contents.specs.Contents.{subsOk, good20H, one, transferItemOk, good21H, userGood, good50H, contextGood, topGood, topOk, ids, itemsOk, maximumIn}
-use Rattle.pdvs.specs.Data.{pdvStep, pdvsIn, pdvs, pdvOk, pdvsOk}
+use Rattle.contents.proofs.Examples.{contents-open}
+use Rattle.pdvs.proofs.Examples.{pdvs-open}
 use Rattle.reasons.specs.Values.{rejectReasons, rejectOk, abortOk}
 use Rattle.judging.specs.Pdu.{whole, requestOk, acceptOk, rejectPduOk, dataOk, releaseOk, abortPduOk, validAs, kindOf, acceptable, maximumOf}
 
@@ -158,20 +155,25 @@ others =
     ∷ is 0 []
     ∷ []
 
+-- what the definitions of a PDU's kind compute with, by one name for an `unfolding` line
+unfoldable pub judging-open : Unit {0}
+unfolding contents-open pdvs-open kindOf validAs whole requestOk acceptOk rejectPduOk dataOk releaseOk abortPduOk acceptable maximumOf rejectReasons rejectOk abortOk titleOk
+judging-open = tt
+
 pub kinds : (asked requests && (asked answers && asked others)) ≡ true
-unfolding kindOf validAs whole requestOk acceptOk rejectPduOk dataOk releaseOk abortPduOk rejectReasons rejectOk abortOk pdvStep pdvsIn pdvs pdvOk pdvsOk subsOk good20H one transferItemOk good21H userGood good50H contextGood topGood topOk ids itemsOk step walkIn walk filled bodies types only goodBodies holds itemBytes nameOk titleOk be16 be32 among distinct
+unfolding judging-open
 kinds = refl
 
 -- version 2 is valid but not acceptable, 3 is; and the maximum
 pub versions : (acceptable (frame 1 3 title (application ++ (context 1 ++ user))) ≡ true) × (acceptable (frame 1 2 title (application ++ (context 1 ++ user))) ≡ false)
-unfolding acceptable kindOf validAs whole requestOk subsOk good20H one userGood good50H contextGood topGood topOk ids itemsOk step walkIn walk filled bodies types only goodBodies holds itemBytes nameOk titleOk be16 be32 among distinct
+unfolding judging-open
 versions = (refl, refl)
 
 pub maxima : maximumOf (ac (application ++ (answer 1 0 ++ user))) ≡ 16384
-unfolding maximumOf maximumIn kindOf validAs whole acceptOk one transferItemOk good21H userGood good50H contextGood topGood topOk ids itemsOk step walkIn walk filled bodies types only goodBodies holds itemBytes nameOk be16 be32 among distinct
+unfolding judging-open
 maxima = refl
 
 -- a P-DATA-TF whose one PDV item fills it: of length 16,384, and of 16,385
 pub limits : (kindOf (pdu 4 (four 16380 ++ (1 ∷ 0 ∷ replicate 16378 0))) ≡ 4) × (kindOf (pdu 4 (four 16381 ++ (1 ∷ 0 ∷ replicate 16379 0))) ≡ 0)
-unfolding kindOf validAs whole dataOk pdvStep pdvsIn pdvs pdvOk pdvsOk be16 be32
+unfolding judging-open
 limits = (refl, refl)

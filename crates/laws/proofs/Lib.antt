@@ -1,6 +1,7 @@
 pub mod Tests
 pub mod Booleans
 pub mod Places
+pub mod Parts
 pub mod Records
 pub mod Same
 pub mod Below

@@ -2,7 +2,7 @@
 -- Assumes nothing.
 use Prim.Native.Nat.{ℕ, _+_, _-_, _/_, _%_, _≤_, _<_}
 use native.Mathlib.Omega.{arith}
-use mathlib.Core.Bool.{Bool, true, false, _&&_, cond}
+use mathlib.Core.Bool.{Bool, true, false, _&&_}
 use mathlib.Core.List.{List, [], _∷_, _++_, map}
 use mathlib.Core.Path.{_≡_, refl, sym, ap, _∙_}
 use lib.ListN.{length, take, drop, getD, length-append, length-drop, take-append-drop}
@@ -11,6 +11,7 @@ use lib.Dec.{leb, eqb}
 use borrow.Author.Tests.{le-leb, leb-true, eqb-true, eqb-false}
 use Rattle.laws.specs.Lists.{all, joined}
 use Rattle.laws.proofs.Booleans.{left-of, right-of, both-of}
+use Rattle.laws.proofs.Parts.{part-there}
 use Rattle.octets.specs.Octets.{be16, be32}
 use Rattle.pdvs.specs.Data.{Pdv, pdvStep, pdvs, pdvBytes, pdvFits, size, pdvOk, pdvsOk, pdvEnd}
 use Rattle.pdvs.proofs.DataLaws.{pdvs-step, pdvAt, pdv-more, pdv-stop}
@@ -74,14 +75,6 @@ module _ (s : List ℕ) (b : (i : ℕ) → getD s i 0 < 256) (e : ℕ) (h : 6 �
       = sym (take-append-drop (e - 6) (drop 6 s)) ∙ ap (λ (r : List ℕ). take (e - 6) (drop 6 s) ++ r) (drop-drop (e - 6) 6 s ∙ ap (λ (k : ℕ). drop k s) (sym z)) in
       six s (omega arith) ∙ (λ i. w0 i ∷ w1 i ∷ w2 i ∷ w3 i ∷ getD s 4 0 ∷ getD s 5 0 ∷ t i)
 
-end-is : (s : List ℕ) → (pdvEnd s 0 ≡ 0 → ⊥) → pdvEnd s 0 ≡ 4 + be32 s 0
-unfolding pdvEnd
-end-is s n = go (leb 2 (be32 s 0) && leb (4 + be32 s 0) (length s)) n
-  where
-    go : (d : Bool) → (cond d (4 + be32 s 0) 0 ≡ 0 → ⊥) → cond d (4 + be32 s 0) 0 ≡ 4 + be32 s 0
-    go true m = refl
-    go false m = absurd (m refl)
-
 -- PDV items that fill s are the bytes of its PDVs
 back : (ps : List Pdv) (s : List ℕ) → ((i : ℕ) → getD s i 0 < 256) → pdvs s ≡ ps → size ps ≡ length s → s ≡ joined (map pdvBytes ps)
 back [] s b p z = empty-is s (sym z)
@@ -100,16 +93,17 @@ back (p ∷ ps) s b q z = go (back ps (drop (pdvEnd s 0) s)) (eqb (pdvEnd s 0) 0
     go rest false e =
         let n = eqb-false (pdvEnd s 0) 0 e in
         let i = pdv-more s 0 (pdvEnd s 0) refl n in
+        let is : pdvEnd s 0 ≡ 4 + be32 s 0 = part-there 2 s 0 (be32 s 0) (pdvEnd s 0) refl n .is in
         let h : 6 ≤ pdvEnd s 0 = omega arith in
         let l : pdvEnd s 0 ≤ length s = i .to in
-        let f = fragment-long s b (pdvEnd s 0) h l (end-is s n) in
+        let f = fragment-long s b (pdvEnd s 0) h l is in
         let c : pdvs s ≡ pdvAt s 0 (pdvEnd s 0) ∷ pdvs (drop (pdvEnd s 0) s) = i .eq in
         let u : pdvAt s 0 (pdvEnd s 0) ≡ p = cc in
         let v : pdvs (drop (pdvEnd s 0) s) ≡ ps = cc in
         let g : length (p .fragment) ≡ pdvEnd s 0 - 6 = ap (λ (x : Pdv). length (x .fragment)) (sym u) ∙ f in
         let r : size ps ≡ length (drop (pdvEnd s 0) s) = (let d = length-drop (pdvEnd s 0) s in omega arith) in
         let k = rest (λ j. rw (getD-drop (pdvEnd s 0) s j 0) (b (pdvEnd s 0 + j))) v r in
-        first-back s b (pdvEnd s 0) h l (end-is s n) ∙ (λ j. pdvBytes (u j) ++ k j)
+        first-back s b (pdvEnd s 0) h l is ∙ (λ j. pdvBytes (u j) ++ k j)
 
 -- good items; each element of the list is a byte
 pub pdvs-back : (most : ℕ) (s : List ℕ) → ((i : ℕ) → getD s i 0 < 256) → pdvsOk most s ≡ true → s ≡ joined (map pdvBytes (pdvs s))

@@ -1,11 +1,12 @@
 -- "04H P-DATA-TF: one or more PDV items that fill it: four-byte length at least 2, odd ID, control byte (bit 0 command, bit 1 last; bits 2 to 7 not
 -- tested), fragment, perhaps empty."
-use Prim.Native.Nat.{ℕ, zero, suc, _+_, _-_}
-use mathlib.Core.Bool.{Bool, true, false, _&&_, cond}
+use Prim.Native.Nat.{ℕ, _+_, _-_}
+use mathlib.Core.Bool.{Bool, _&&_, cond}
 use mathlib.Core.List.{List, [], _∷_, _++_}
 use lib.ListN.{length, take, drop, getD}
 use lib.Dec.{leb, eqb}
 use Rattle.laws.specs.Lists.{all}
+use Rattle.laws.specs.Parts.{steps, partEnd}
 use Rattle.octets.specs.Octets.{be32, four, odd}
 
 pub record Pdv : Type 0 where
@@ -22,8 +23,7 @@ pdvStep go s =
 
 -- at most n steps
 unfoldable pub pdvsIn : ℕ → List ℕ → List Pdv
-pdvsIn zero s = []
-pdvsIn (suc n) s = pdvStep (pdvsIn n) s
+pdvsIn = steps pdvStep (λ s. [])
 
 -- the PDV items that stand at the start of a body, one behind the other: `pdvs s ≡ pdvStep pdvs s` (DataLaws.pdvs-step)
 unfoldable pub pdvs : List ℕ → List Pdv
@@ -50,5 +50,5 @@ unfoldable pub pdvsOk : ℕ → List ℕ → Bool
 pdvsOk most s = leb 1 (length (pdvs s)) && (eqb (size (pdvs s)) (length s) && all (pdvOk most) (pdvs s))
 
 -- the place behind the PDV item at a place, or 0 where none stands there
-unfoldable pub pdvEnd : List ℕ → ℕ → ℕ
-pdvEnd s at = cond (leb 2 (be32 s at) && leb (at + 4 + be32 s at) (length s)) (at + 4 + be32 s at) 0
+abbrev pub pdvEnd : List ℕ → ℕ → ℕ
+pdvEnd s at = partEnd 2 s at (be32 s at)

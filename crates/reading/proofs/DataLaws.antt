@@ -18,7 +18,7 @@ use Rattle.laws.proofs.Places.{part-tail}
 use Rattle.octets.proofs.SliceLaws.{place-from}
 use Rattle.pdvs.specs.Data.{Pdv, pdvs, size, pdvEnd}
 use Rattle.judging.specs.Pdu.{kindOf}
-use Rattle.pdvs.proofs.DataLaws.{pdvAt, PdvItem, pdv-more, pdv-stop, pdv-from, pdv-to, pdv-id, pdv-control, pdv-fits-4, pdv-fits-5, pdv-fits-6, pdv-walking}
+use Rattle.pdvs.proofs.DataLaws.{pdvAt, PdvItem, pdv-more, pdv-stop}
 use Rattle.judging.proofs.KindLaws.{whole-six, kind-whole}
 use Rattle.reading.specs.Data.{pdvsOf, pdv, startOf, dataOf, fragmentOf}
 use Rattle.reading.specs.declared.data.DataRead.{DataRead}
@@ -141,10 +141,10 @@ module _ (x : List ℕ) (number k : ℕ) (p : k ≡ kindOf x) where
         item-in = pdv-more (drop 6 x) at e end-in ne
 
         pub data-id : at + 4 < length (take (length x - 6) (drop 6 x))
-        data-id = rw (part-tail 6 x) (pdv-id (drop 6 x) at e end-in ne)
+        data-id = rw (part-tail 6 x) (let i = item-in in omega arith)
 
         pub data-control : at + 5 < length (take (length x - 6) (drop 6 x))
-        data-control = rw (part-tail 6 x) (pdv-control (drop 6 x) at e end-in ne)
+        data-control = rw (part-tail 6 x) (let i = item-in in omega arith)
 
         within : at + 6 + 6 ≤ length x
         within = let i = item-in in let l = length-drop 6 x in let s = data-six in omega arith

@@ -1,5 +1,5 @@
 -- `items::item_end` meets its contract. Assumes nothing.
-use Rattle.items.proofs.WalkLaws.{end-laws}
+use Rattle.laws.proofs.Parts.{end-laws}
 use Rattle.items.proofs.item_end.Statement.{statement}
 use Rattle.items.proofs.item_end.Tie as tie
 

@@ -4,20 +4,13 @@ use Rattle.contents.proofs.ContentLaws.{counting}
 use Rattle.contents.proofs.context.transfer_item_ok.Statement.{statement}
 use Rattle.contents.proofs.context.transfer_item_ok.Tie as tie
 
-returns : tie.Need-returns
-unfolding transferItemOk
-returns c = search counting
-
-returns-2 : tie.Need-returns-2
-unfolding transferItemOk
-returns-2 c = search counting
-
 pub transfer-item-ok-spec : {M : Type 1} → statement M
+unfolding transferItemOk
 transfer-item-ok-spec =
     tie.close
     (tie.spec
     (λ c κs. search counting)  -- one-of-requires
-    returns
+    (λ c. search counting)  -- returns
     (λ c κs. search counting)  -- first-of-requires
     (λ c κs. search counting)  -- name-ok-requires
-    returns-2)
+    (λ c. search counting))  -- returns-2

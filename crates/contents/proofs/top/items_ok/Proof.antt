@@ -5,19 +5,12 @@ use Rattle.laws.proofs.Tests.{deciding}
 use Rattle.contents.proofs.top.items_ok.Statement.{statement}
 use Rattle.contents.proofs.top.items_ok.Tie as tie
 
-returns : tie.Need-returns
-unfolding itemsOk
-returns c = search deciding
-
-returns-2 : tie.Need-returns-2
-unfolding itemsOk
-returns-2 c = search deciding
-
 pub items-ok-spec : {M : Type 1} → statement M
+unfolding itemsOk
 items-ok-spec =
     tie.close
     (tie.spec
     (λ c κs. search needs)  -- top-ok-requires
-    returns
+    (λ c. search deciding)  -- returns
     (λ c κs. search needs)  -- ids-differ-requires
-    returns-2)
+    (λ c. search deciding))  -- returns-2

@@ -4,21 +4,14 @@ use Rattle.judging.proofs.KindLaws.{kinds}
 use Rattle.judging.proofs.kind.reject_pdu_ok.Statement.{statement}
 use Rattle.judging.proofs.kind.reject_pdu_ok.Tie as tie
 
-returns : tie.Need-returns
-unfolding rejectPduOk
-returns c = search kinds
-
-returns-2 : tie.Need-returns-2
-unfolding rejectPduOk
-returns-2 c = search kinds
-
 pub reject-pdu-ok-spec : {M : Type 1} → statement M
+unfolding rejectPduOk
 reject-pdu-ok-spec =
     tie.close
     (tie.spec
-    returns
+    (λ c. search kinds)  -- returns
     (λ c. search kinds)  -- shared-slice-read-reject-ok
     (λ c. search kinds)  -- shared-slice-read-reject-ok-2
     (λ c. search kinds)  -- shared-slice-read-reject-ok-3
     (λ c κs. search kinds)  -- reject-ok-requires
-    returns-2)
+    (λ c. search kinds))  -- returns-2

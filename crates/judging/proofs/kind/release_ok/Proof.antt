@@ -4,9 +4,9 @@ use Rattle.judging.proofs.KindLaws.{kinds}
 use Rattle.judging.proofs.kind.release_ok.Statement.{statement}
 use Rattle.judging.proofs.kind.release_ok.Tie as tie
 
-returns : tie.Need-returns
-unfolding releaseOk
-returns c = search kinds
-
 pub release-ok-spec : {M : Type 1} → statement M
-release-ok-spec = tie.close (tie.spec returns)
+unfolding releaseOk
+release-ok-spec =
+    tie.close
+    (tie.spec
+    (λ c. search kinds))  -- returns

@@ -4,39 +4,24 @@ use Rattle.judging.proofs.KindLaws.{kinds}
 use Rattle.judging.proofs.kind.request_ok.Statement.{statement}
 use Rattle.judging.proofs.kind.request_ok.Tie as tie
 
-returns : tie.Need-returns
-unfolding requestOk
-returns c = search kinds
-
-returns-2 : tie.Need-returns-2
-unfolding requestOk
-returns-2 c = search kinds
-
-returns-3 : tie.Need-returns-3
-unfolding requestOk
-returns-3 c = search kinds
-
-returns-4 : tie.Need-returns-4
-unfolding requestOk
-returns-4 c = search kinds
-
 pub request-ok-spec : {M : Type 1} → statement M
+unfolding requestOk
 request-ok-spec =
     tie.close
     (tie.spec
-    returns
+    (λ c. search kinds)  -- returns
     (λ c. search kinds)  -- sub-title-ok
     (λ c. search kinds)  -- part-title-ok-start
     (λ c. search kinds)  -- part-title-ok-end
     (λ c κs. search kinds)  -- title-ok-requires
-    returns-2
+    (λ c. search kinds)  -- returns-2
     (λ c. search kinds)  -- sub-title-ok-2
     (λ c. search kinds)  -- part-title-ok-start-2
     (λ c. search kinds)  -- part-title-ok-end-2
     (λ c κs. search kinds)  -- title-ok-requires-2
-    returns-3
+    (λ c. search kinds)  -- returns-3
     (λ c. search kinds)  -- sub-items-ok
     (λ c. search kinds)  -- part-items-ok-start
     (λ c. search kinds)  -- part-items-ok-end
     (λ c κs. search kinds)  -- items-ok-requires
-    returns-4)
+    (λ c. search kinds))  -- returns-4
