@@ -2,6 +2,7 @@
 ghost use mathlib.Core.Path.{_≡_};
 ghost use Prim.Native.Nat.{_+_, _≤_};
 ghost use lib.ListN.{length, drop};
+ghost use Rattle.numbers.specs.Lengths.{RECORD};
 ghost use Rattle.octets.specs.Put.{Placed};
 ghost use Rattle.items.specs.Items.{walk, bodies};
 ghost use Rattle.sheets.specs.Record.{recordOf};
@@ -47,7 +48,7 @@ pub(crate) fn rows(k: u8, s: &[u8]) -> usize
 }
 
 fn put_record(sheet: &mut [u8], n: usize, id: u8, result: u8, a: &[u8], x: &[u8]) -> usize
-    requires { ⌜ n + 132 ≤ length (now sheet) ⌝ }
+    requires { ⌜ n + RECORD ≤ length (now sheet) ⌝ }
     ensures { λ r. ⌜ Written (now (sheet .entry)) n (recordOf id result (now (a .entry)) (now (x .entry))) r (now (sheet .exit)) ⌝ }
 {
     let r = sheets::record_of(id, result, a, x);
@@ -84,7 +85,7 @@ fn put_proposed(sheet: &mut [u8], n: usize, b: &[u8]) -> usize
 }
 
 fn put_answered(sheet: &mut [u8], n: usize, b: &[u8]) -> usize
-    requires { ⌜ n + 132 ≤ length (now sheet) ⌝ }
+    requires { ⌜ n + RECORD ≤ length (now sheet) ⌝ }
     ensures { λ r. ⌜ Written (now (sheet .entry)) n (bodyRecords 0x21 (now (b .entry))) r (now (sheet .exit)) ⌝ }
 {
     let s = behind_four(b);

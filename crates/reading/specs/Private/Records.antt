@@ -5,6 +5,7 @@ use mathlib.Core.Bool.{cond}
 use mathlib.Core.List.{List, [], _∷_, _++_}
 use lib.ListN.{length, drop, getD}
 use lib.Dec.{eqb}
+use Rattle.numbers.specs.Kinds.{ASSOCIATE-RQ}
 use Rattle.octets.specs.Put.{put}
 use Rattle.items.specs.Items.{walk, bodies, first}
 use Rattle.contents.specs.Contents.{maximumIn}
@@ -42,7 +43,7 @@ pub record Written (o : List ℕ) (at : ℕ) (bs : List ℕ) (r : ℕ) (o′ : L
 
 -- the type of a context in a PDU of this kind
 unfoldable pub contextType : ℕ → ℕ
-contextType kind = cond (eqb kind 1) 0x20 0x21
+contextType kind = cond (eqb kind ASSOCIATE-RQ) 0x20 0x21
 
 -- the fields of an RQ or AC that gives so many records
 unfoldable pub fieldsWith : List ℕ → ℕ → Associate
