@@ -1,15 +1,14 @@
 -- Records put into the sheet, one body after the other: the loops of filling and of counting.
 -- Assumes nothing.
-use Prim.Native.Nat.{ℕ, zero, suc, _+_, _-_, _*_, _^_, _≤_, _<_}
+use Prim.Native.Nat.{ℕ, _+_, _-_, _^_, _≤_, _<_}
 use native.Mathlib.Omega.{arith}
 use mathlib.Core.Bool.{Bool, true, false, cond}
-use mathlib.Core.List.{List, [], _∷_, _++_}
+use mathlib.Core.List.{List, [], _++_}
 use mathlib.Core.Path.{_≡_, refl, sym, ap, _∙_}
 use lib.ListN.{length, take, drop, getD, length-append, length-drop, drop-of-length-le}
-use lib.Seq.{take-all}
 use lib.Dec.{eqb}
 use borrow.Author.Needs.{needs}
-use borrow.Author.Tests.{eq-eqb, ne-eqb}
+use borrow.Author.Tests.{ne-eqb}
 use mir.Val.{Fits}
 use mir.Syntax.{w64}
 use Rattle.laws.proofs.Places.{part-tail}
@@ -19,9 +18,9 @@ use Rattle.items.specs.Items.{walk, bodies, first, itemEnd}
 use Rattle.items.proofs.WalkLaws.{more, walking}
 use Rattle.items.proofs.ItemLaws.{bodyAt, body-length, bodies-more, bodies-skip, bodies-stop, bodies-over}
 use Rattle.items.proofs.PlaceLaws.{stands}
-use Rattle.sheets.specs.Sheet.{recordBytes}
 use Rattle.sheets.specs.Record.{recordOf}
 use Rattle.sheets.proofs.RecordLaws.{record-length, cut-short}
+use Rattle.reading.specs.Associate.{contextOf, answerOf}
 use Rattle.reading.specs.Private.Records.{each, bodyRecords, bodyRows, rowsOf, Written}
 
 -- ---- one record
@@ -130,50 +129,35 @@ fill-body k s o₀ from o n at w e p ne h = fill-room (bodyRecords k) k s o₀ f
 
 pub ruleset fill-laws = (fill-start, fill-begin, fill-stop, fill-over, fill-long, fill-skip, fill-132, fill-body, fill-next, walking)
 
--- ---- one context
-module _ (b s a : List ℕ) (id : ℕ) (p : s ≡ drop 4 b) (q : id ≡ getD b 0 0) where
-  module _ (u : a ≡ first (bodies 0x30 (walk s))) where
-    proposed-is : each (recordOf id 0 a) (bodies 0x40 (walk s)) ≡ bodyRecords 0x20 b
-    unfolding bodyRecords
-    proposed-is = rw (u, p, q)
+-- ---- `put_context`
+module _ (k n : ℕ) (b s o : List ℕ) (id : ℕ) (p : s ≡ drop 4 b) (q : id ≡ getD b 0 0) where
+  module _ (e : k ≡ 0x20) (a : List ℕ) (u : a ≡ first (bodies 0x30 (walk s))) where
+    proposed-is : each (recordOf id 0 a) (bodies 0x40 (walk s)) ≡ bodyRecords k b
+    unfolding bodyRecords contextOf
+    proposed-is = rw (u, p, q, e)
 
-    pub proposed-room : (n : ℕ) (o : List ℕ) → n + length (bodyRecords 0x20 b) ≤ length o → n + length (each (recordOf id 0 a) (bodies 0x40 (walk s))) ≤ length o
-    proposed-room n o h = rw proposed-is h
+    pub proposed-room : n + length (bodyRecords k b) ≤ length o → n + length (each (recordOf id 0 a) (bodies 0x40 (walk s))) ≤ length o
+    proposed-room h = rw proposed-is h
 
-    pub proposed-written : (n m : ℕ) (o o′ : List ℕ) → Written o n (each (recordOf id 0 a) (bodies 0x40 (walk s))) m o′ → Written o n (bodyRecords 0x20 b) m o′
-    proposed-written n m o o′ w = rw proposed-is at w
+    pub proposed-written : (m : ℕ) (o′ : List ℕ) → Written o n (each (recordOf id 0 a) (bodies 0x40 (walk s))) m o′ → Written o n (bodyRecords k b) m o′
+    proposed-written m o′ w = rw proposed-is at w
 
-  pub answered-written : (n m result : ℕ) (o o′ x : List ℕ) → result ≡ getD b 2 0 → x ≡ first (bodies 0x40 (walk s)) → Written o n (recordOf id result [] x) m o′ → Written o n (bodyRecords 0x21 b) m o′
-  unfolding bodyRecords
-  answered-written n m result o o′ x g u w = rw (g, u, p, q) at w
+  module _ (e : k ≡ 0x20 → ⊥) (result : ℕ) (g : result ≡ getD b 2 0) (x : List ℕ) (u : x ≡ first (bodies 0x40 (walk s))) where
+    answered-is : recordOf id result [] x ≡ bodyRecords k b
+    unfolding bodyRecords answerOf
+    answered-is = rw (ne-eqb k 0x20 e, g, u, p, q)
 
-pub ruleset one-laws = (needs, proposed-room, proposed-written, answered-written)
+    pub answered-room : n + length (bodyRecords k b) ≤ length o → n + 132 ≤ length o
+    answered-room h = let l = ap length answered-is in let r = record-132 id result [] x in omega arith
 
-module _ (k : ℕ) (b o : List ℕ) (n : ℕ) where
-  pub as-proposed-room : k ≡ 0x20 → n + length (bodyRecords k b) ≤ length o → n + length (bodyRecords 0x20 b) ≤ length o
-  as-proposed-room e h = rw e at h
+    pub answered-written : (m : ℕ) (o′ : List ℕ) → Written o n (recordOf id result [] x) m o′ → Written o n (bodyRecords k b) m o′
+    answered-written m o′ w = rw answered-is at w
 
-  pub as-proposed : (m : ℕ) (o′ : List ℕ) → k ≡ 0x20 → Written o n (bodyRecords 0x20 b) m o′ → Written o n (bodyRecords k b) m o′
-  as-proposed m o′ e w = rw e w
-
-  other-type : (k ≡ 0x20 → ⊥) → bodyRecords k b ≡ recordOf (getD b 0 0) (getD b 2 0) [] (first (bodies 0x40 (walk (drop 4 b))))
-  unfolding bodyRecords
-  other-type e = rw (ne-eqb k 0x20 e)
-
-  pub as-answered-room : (k ≡ 0x20 → ⊥) → n + length (bodyRecords k b) ≤ length o → n + 132 ≤ length o
-  as-answered-room e h =
-      let l : length (bodyRecords k b) ≡ 132 = ap length (other-type e) ∙ record-132 (getD b 0 0) (getD b 2 0) [] (first (bodies 0x40 (walk (drop 4 b)))) in
-      omega arith
-
-  pub as-answered : (m : ℕ) (o′ : List ℕ) → (k ≡ 0x20 → ⊥) → Written o n (bodyRecords 0x21 b) m o′ → Written o n (bodyRecords k b) m o′
-  unfolding bodyRecords
-  as-answered m o′ e w = rw (other-type e) w
-
-pub ruleset context-laws = (needs, as-proposed-room, as-proposed, as-answered-room, as-answered)
+pub ruleset context-laws = (needs, proposed-room, proposed-written, answered-room, answered-written)
 
 -- ---- counting
 pub rows-proposed : (k r : ℕ) (b x : List ℕ) → k ≡ 0x20 → x ≡ drop 4 b → r ≡ length (bodies 0x40 (walk x)) → r ≡ bodyRows k b
-unfolding bodyRows
+unfolding bodyRows contextOf
 rows-proposed k r b x e p q = q ∙ rw (p, e)
 
 pub rows-answered : (k : ℕ) (b : List ℕ) → (k ≡ 0x20 → ⊥) → 1 ≡ bodyRows k b
@@ -184,7 +168,7 @@ pub ruleset rows-in-laws = (needs, rows-proposed, rows-answered)
 
 -- no context gives more records than it has bytes
 few : (k : ℕ) (b : List ℕ) → bodyRows k b ≤ 4 + length b
-unfolding bodyRows
+unfolding bodyRows contextOf
 few k b = go (eqb k 0x20)
   where
     go : (d : Bool) → cond d (length (bodies 0x40 (walk (drop 4 b)))) 1 ≤ 4 + length b

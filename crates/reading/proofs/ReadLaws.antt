@@ -3,9 +3,9 @@
 use Prim.Native.Nat.{ℕ, _+_, _-_, _*_, _/_, _^_, _≤_, _<_}
 use native.Mathlib.Omega.{arith}
 use mathlib.Core.Bool.{Bool, true, false, cond}
-use mathlib.Core.List.{List, [], _∷_, _++_, map}
+use mathlib.Core.List.{List, [], _∷_, map}
 use mathlib.Core.Path.{_≡_, refl, sym, ap, _∙_}
-use lib.ListN.{length, take, drop, getD, length-append, length-drop}
+use lib.ListN.{length, take, drop, length-append, length-drop}
 use lib.Dec.{ltb, eqb}
 use borrow.Author.Needs.{needs}
 use mir.Val.{Fits}
@@ -15,18 +15,17 @@ use Rattle.laws.specs.Lists.{all}
 use Rattle.laws.proofs.Booleans.{left-of, right-of}
 use Rattle.laws.proofs.Places.{part-tail}
 use Rattle.octets.specs.Octets.{be16}
-use Rattle.octets.specs.Put.{put, front}
+use Rattle.octets.specs.Put.{front}
 use Rattle.octets.proofs.PutLaws.{put-front}
 use Rattle.names.specs.Name.{nameOk}
 use Rattle.names.proofs.NameLaws.{name-short}
 use Rattle.items.specs.Items.{walk, bodies, first, place}
 use Rattle.items.proofs.PlaceLaws.{stands}
-use Rattle.contents.specs.Contents.{good20H, good21H, itemsOk, maximumIn}
-use Rattle.contents.proofs.GoodLaws.{abstract-names, transfer-names, transfer-name, items-20, items-21}
+use Rattle.contents.specs.Contents.{good20H, good21H, maximumIn}
+use Rattle.contents.proofs.GoodLaws.{abstract-name, transfer-names, transfer-name, items-20, items-21}
 use Rattle.judging.specs.Pdu.{kindOf, maximumOf}
 use Rattle.judging.proofs.KindLaws.{request-long, accept-long, request-items, accept-items}
-use Rattle.sheets.specs.Contexts.{Context, Answered}
-use Rattle.sheets.specs.Sheet.{recordBytes, contextRecords, sheetOf, answerSheetOf}
+use Rattle.sheets.specs.Sheet.{contextRecords, sheetOf, answerSheetOf}
 use Rattle.sheets.specs.Record.{recordOf}
 use Rattle.sheets.proofs.RecordLaws.{record-whole}
 use Rattle.reading.specs.Associate.{contextOf, answerOf, proposed, answered, applicationOf, applicationAt, sheetIn, refused, fieldsOf, associateOf, filling, Read}
@@ -48,10 +47,10 @@ unfolding bodyRecords bodyRows
 body-size k b = go (eqb k 0x20)
   where
     go : (d : Bool)
-        → length (cond d (each (recordOf (getD b 0 0) 0 (first (bodies 0x30 (walk (drop 4 b))))) (bodies 0x40 (walk (drop 4 b)))) (recordOf (getD b 0 0) (getD b 2 0) [] (first (bodies 0x40 (walk (drop 4 b))))))
-        ≡ 132 * cond d (length (bodies 0x40 (walk (drop 4 b)))) 1
-    go true = each-size (getD b 0 0) (first (bodies 0x30 (walk (drop 4 b)))) (bodies 0x40 (walk (drop 4 b)))
-    go false = record-132 (getD b 0 0) (getD b 2 0) [] (first (bodies 0x40 (walk (drop 4 b))))
+        → length (cond d (each (recordOf (contextOf b .id) 0 (contextOf b .abstr)) (contextOf b .transfers)) (recordOf (answerOf b .id) (answerOf b .result) [] (answerOf b .transfer)))
+        ≡ 132 * cond d (length (contextOf b .transfers)) 1
+    go true = each-size (contextOf b .id) (contextOf b .abstr) (contextOf b .transfers)
+    go false = record-132 (answerOf b .id) (answerOf b .result) [] (answerOf b .transfer)
 
 all-size : (k : ℕ) (bs : List (List ℕ)) → length (each (bodyRecords k) bs) ≡ 132 * rowsOf k bs
 unfolding each rowsOf
@@ -62,33 +61,25 @@ all-size k (b ∷ bs) =
     length-append (bodyRecords k b) (each (bodyRecords k) bs) ∙ (let z : length (bodyRecords k b) + length (each (bodyRecords k) bs) ≡ 132 * (bodyRows k b + rowsOf k bs) = omega arith in z)
 
 -- ---- a valid PDU has no name that is too long for its field
-short : (bs : List (List ℕ)) → all nameOk bs ≡ true → length (first bs) ≤ 64
-short [] g = omega arith
-short (b ∷ bs) g = name-short b (left-of _ _ g)
-
-whole-records : (id : ℕ) (a : List ℕ) (xs : List (List ℕ)) → length a ≤ 64 → all nameOk xs ≡ true → each (recordOf id 0 a) xs ≡ contextRecords id a xs
+whole-records : (id : ℕ) (a : List ℕ) (xs : List (List ℕ)) → nameOk a ≡ true → all nameOk xs ≡ true → each (recordOf id 0 a) xs ≡ contextRecords id a xs
 unfolding each contextRecords
 whole-records id a [] h g = refl
 whole-records id a (x ∷ xs) h g =
-    rw (record-whole id 0 a x h (name-short x (left-of _ _ g)), whole-records id a xs h (right-of (nameOk x) _ g))
+    rw (record-whole id 0 a x (name-short a h) (name-short x (left-of _ _ g)), whole-records id a xs h (right-of (nameOk x) _ g))
 
 proposed-sheet : (bs : List (List ℕ)) → all good20H bs ≡ true → each (bodyRecords 0x20) bs ≡ sheetOf (map contextOf bs)
 unfolding each bodyRecords sheetOf contextOf
 proposed-sheet [] g = refl
 proposed-sheet (b ∷ bs) g =
     let o : good20H b ≡ true = left-of _ _ g in
-    let h = short (bodies 0x30 (walk (drop 4 b))) (abstract-names b o) in
-    let e = whole-records (getD b 0 0) (first (bodies 0x30 (walk (drop 4 b)))) (bodies 0x40 (walk (drop 4 b))) h (transfer-names b o) in
-    rw (e, proposed-sheet bs (right-of (good20H b) _ g))
+    rw (whole-records (contextOf b .id) (contextOf b .abstr) (contextOf b .transfers) (abstract-name b o) (transfer-names b o), proposed-sheet bs (right-of (good20H b) _ g))
 
 answered-sheet : (bs : List (List ℕ)) → all good21H bs ≡ true → each (bodyRecords 0x21) bs ≡ answerSheetOf (map answerOf bs)
 unfolding each bodyRecords answerSheetOf answerOf
 answered-sheet [] g = refl
 answered-sheet (b ∷ bs) g =
-    let o : good21H b ≡ true = left-of _ _ g in
     let z : length {A = ℕ} [] ≤ 64 = omega arith in
-    let e = record-whole (getD b 0 0) (getD b 2 0) [] (first (bodies 0x40 (walk (drop 4 b)))) z (name-short (first (bodies 0x40 (walk (drop 4 b)))) (transfer-name b o)) in
-    rw (e, answered-sheet bs (right-of (good21H b) _ g))
+    rw (record-whole (answerOf b .id) (answerOf b .result) [] (answerOf b .transfer) z (name-short (answerOf b .transfer) (transfer-name b (left-of _ _ g))), answered-sheet bs (right-of (good21H b) _ g))
 
 -- what the code puts into the sheet is the sheet of the contexts
 module _ (x : List ℕ) where

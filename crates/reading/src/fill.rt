@@ -3,7 +3,6 @@ ghost use mathlib.Core.Path.{_≡_};
 ghost use Prim.Native.Nat.{_+_, _≤_};
 ghost use lib.ListN.{length, drop};
 ghost use Rattle.numbers.specs.Lengths.{RECORD};
-ghost use Rattle.octets.specs.Put.{Placed};
 ghost use Rattle.items.specs.Items.{walk, bodies};
 ghost use Rattle.sheets.specs.Record.{recordOf};
 ghost use Rattle.reading.specs.Private.Records.{each, bodyRecords, allRecords, bodyRows, rowsOf, Written};
@@ -76,37 +75,23 @@ fn put_transfers(sheet: &mut [u8], from: usize, id: u8, a: &[u8], s: &[u8]) -> u
     n
 }
 
-fn put_proposed(sheet: &mut [u8], n: usize, b: &[u8]) -> usize
-    requires { ⌜ n + length (bodyRecords 0x20 (now b)) ≤ length (now sheet) ⌝ }
-    ensures { λ r. ⌜ Written (now (sheet .entry)) n (bodyRecords 0x20 (now (b .entry))) r (now (sheet .exit)) ⌝ }
-{
-    let s = behind_four(b);
-    put_transfers(sheet, n, octets::byte_at(b, 0), items::first_of(0x30, s), s)
-}
-
-fn put_answered(sheet: &mut [u8], n: usize, b: &[u8]) -> usize
-    requires { ⌜ n + RECORD ≤ length (now sheet) ⌝ }
-    ensures { λ r. ⌜ Written (now (sheet .entry)) n (bodyRecords 0x21 (now (b .entry))) r (now (sheet .exit)) ⌝ }
-{
-    let s = behind_four(b);
-    put_record(
-        sheet,
-        n,
-        octets::byte_at(b, 0),
-        octets::byte_at(b, 2),
-        &b[0..0],
-        items::first_of(0x40, s),
-    )
-}
-
 fn put_context(k: u8, sheet: &mut [u8], n: usize, b: &[u8]) -> usize
     requires { ⌜ n + length (bodyRecords k (now b)) ≤ length (now sheet) ⌝ }
     ensures { λ r. ⌜ Written (now (sheet .entry)) n (bodyRecords k (now (b .entry))) r (now (sheet .exit)) ⌝ }
 {
+    let s = behind_four(b);
+    let id = octets::byte_at(b, 0);
     if k == 0x20 {
-        return put_proposed(sheet, n, b);
+        return put_transfers(sheet, n, id, items::first_of(0x30, s), s);
     }
-    put_answered(sheet, n, b)
+    put_record(
+        sheet,
+        n,
+        id,
+        octets::byte_at(b, 2),
+        &b[0..0],
+        items::first_of(0x40, s),
+    )
 }
 
 pub(crate) fn put_contexts(k: u8, sheet: &mut [u8], s: &[u8]) -> usize
