@@ -12,8 +12,9 @@ use borrow.Author.Tests.{ne-eqb}
 use mir.Val.{Fits}
 use mir.Syntax.{w64}
 use Rattle.laws.proofs.Places.{part-tail}
-use Rattle.octets.specs.Put.{put, Placed}
-use Rattle.octets.proofs.PutLaws.{put-out, put-behind, put-length, put-put, put-none}
+use Rattle.octets.specs.Private.Put.{Put}
+use Rattle.octets.specs.Put.{Placed}
+use Rattle.octets.proofs.PutLaws.{placed-put, put-length, put-nothing, next-room, next-put}
 use Rattle.items.specs.Items.{walk, bodies, first, itemEnd}
 use Rattle.items.proofs.WalkLaws.{more, walking}
 use Rattle.items.proofs.ItemLaws.{bodyAt, body-length, bodies-more, bodies-skip, bodies-stop, bodies-over}
@@ -21,7 +22,7 @@ use Rattle.items.proofs.PlaceLaws.{stands}
 use Rattle.sheets.specs.Record.{recordOf}
 use Rattle.sheets.proofs.RecordLaws.{record-length, cut-short}
 use Rattle.reading.specs.Associate.{contextOf, answerOf}
-use Rattle.reading.specs.Private.Records.{each, bodyRecords, bodyRows, rowsOf, Written}
+use Rattle.reading.specs.Private.Records.{each, bodyRecords, bodyRows, rowsOf}
 
 -- ---- one record
 pub record-132 : (id result : ℕ) (a x : List ℕ) → length (recordOf id result a x) ≡ 132
@@ -29,13 +30,8 @@ unfolding recordOf
 record-132 id result a x = record-length id result (take 64 a) (take 64 x) (cut-short a) (cut-short x)
 
 -- `put_record`
-pub record-written : (o o′ r a x : List ℕ) (n m id result : ℕ) → n + 132 ≤ length o → r ≡ recordOf id result a x → Placed o n r m o′ → Written o n (recordOf id result a x) m o′
-record-written o o′ r a x n m id result h e p =
-    let l : length r ≡ 132 = ap length e ∙ record-132 id result a x in
-    record {
-      behind = put-behind o n r p (omega arith) ∙ rw e;
-      out = put-out o n r p (omega arith) ∙ rw e;
-    }
+pub record-written : (o o′ r a x : List ℕ) (n m id result : ℕ) → n + 132 ≤ length o → r ≡ recordOf id result a x → Placed o n r m o′ → Put o n (recordOf id result a x) m o′
+record-written o o′ r a x n m id result h e p = let l : length r ≡ 132 = ap length e ∙ record-132 id result a x in rw e at (placed-put o n r p (omega arith))
 
 pub record-long : (r a x : List ℕ) (id result : ℕ) → r ≡ recordOf id result a x → length r ≡ 132
 record-long r a x id result e = ap length e ∙ record-132 id result a x
@@ -51,32 +47,28 @@ four-tail b = part-tail 4 b
 
 pub ruleset four-laws = (needs, four-short, four-tail)
 
--- ---- the loop that puts f of each body of a type: o₀ was the sheet, o is now, and n bytes of it are done
+-- ---- the loop that puts f of each body of a type: o₀ was the sheet, o is now, n is the place behind what is done, and what is left has room
 pub record Filling (f : List ℕ → List ℕ) (t : ℕ) (s o₀ : List ℕ) (from : ℕ) (o : List ℕ) (n at : ℕ) : Type 0 where
-  pub whole : put o₀ from (each f (bodies t (walk s))) ≡ put o n (each f (bodies t (walk (drop at s))))
-  pub count : from + length (each f (bodies t (walk s))) ≡ n + length (each f (bodies t (walk (drop at s))))
+  pub rest : {r : ℕ} {o′ : List ℕ} → Put o n (each f (bodies t (walk (drop at s)))) r o′ → Put o₀ from (each f (bodies t (walk s))) r o′
   pub room : n + length (each f (bodies t (walk (drop at s)))) ≤ length o
   pub long : length o ≡ length o₀
 
 pub fill-start : (f : List ℕ → List ℕ) (t : ℕ) (s o : List ℕ) (from : ℕ) → from + length (each f (bodies t (walk s))) ≤ length o → Filling f t s o from o from 0
-fill-start f t s o from h = record { whole = refl; count = refl; room = h; long = refl }
+fill-start f t s o from h = record { rest = λ w. w; room = h; long = refl }
 
 pub fill-begin : (f : List ℕ → List ℕ) (t : ℕ) (s o : List ℕ) → length (each f (bodies t (walk s))) ≤ length o → Filling f t s o 0 o 0 0
 fill-begin f t s o h = fill-start f t s o 0 (omega arith)
 
 module _ (f : List ℕ → List ℕ) (t : ℕ) (s o₀ : List ℕ) (from : ℕ) (o : List ℕ) (n at : ℕ) (w : Filling f t s o₀ from o n at) where
   -- nothing is left
-  ended : bodies t (walk (drop at s)) ≡ [] → Written o₀ from (each f (bodies t (walk s))) n o
+  ended : bodies t (walk (drop at s)) ≡ [] → Put o₀ from (each f (bodies t (walk s))) n o
   unfolding each
-  ended e =
-      let c = w .count in
-      let z : length (each f (bodies t (walk (drop at s)))) ≡ 0 = rw e in
-      record { behind = omega arith; out = sym (w .whole ∙ (rw e (put-none o n))) }
+  ended e = w .rest (rw e (put-nothing o n))
 
-  pub fill-stop : (e : ℕ) → e ≡ itemEnd s at → e ≡ 0 → at < length s → Written o₀ from (each f (bodies t (walk s))) n o
+  pub fill-stop : (e : ℕ) → e ≡ itemEnd s at → e ≡ 0 → at < length s → Put o₀ from (each f (bodies t (walk s))) n o
   fill-stop e p z l = ended (bodies-stop t s at e p z l)
 
-  pub fill-over : length s ≤ at → Written o₀ from (each f (bodies t (walk s))) n o
+  pub fill-over : length s ≤ at → Put o₀ from (each f (bodies t (walk s))) n o
   fill-over h = ended (bodies-over t s at h)
 
   pub fill-long : length o ≡ length o₀
@@ -84,35 +76,25 @@ module _ (f : List ℕ → List ℕ) (t : ℕ) (s o₀ : List ℕ) (from : ℕ) 
 
   module _ (e : ℕ) (p : e ≡ itemEnd s at) (k : e ≡ 0 → ⊥) where
     pub fill-skip : (getD s at 0 ≡ t → ⊥) → Filling f t s o₀ from o n e
-    fill-skip h =
-        let i = bodies-skip t (more s at e p k) h in
-        record { whole = w .whole ∙ rw i; count = w .count ∙ rw i; room = rw i at (w .room); long = w .long }
+    fill-skip h = let i = bodies-skip t (more s at e p k) h in record { rest = λ q. w .rest (rw i q); room = rw i at (w .room); long = w .long }
 
     module _ (h : getD s at 0 ≡ t) where
       split : each f (bodies t (walk (drop at s))) ≡ f (bodyAt s at e) ++ each f (bodies t (walk (drop e s)))
       unfolding each
       split = rw (bodies-more t (more s at e p k) h)
 
-      sum : length (each f (bodies t (walk (drop at s)))) ≡ length (f (bodyAt s at e)) + length (each f (bodies t (walk (drop e s))))
-      sum = ap length split ∙ length-append (f (bodyAt s at e)) (each f (bodies t (walk (drop e s))))
+      both-room : n + (length (f (bodyAt s at e)) + length (each f (bodies t (walk (drop e s))))) ≤ length o
+      both-room = let z = ap length split ∙ length-append (f (bodyAt s at e)) (each f (bodies t (walk (drop e s)))) in let r = w .room in omega arith
 
       fill-room : n + length (f (take (e - (at + 4)) (drop (at + 4) s))) ≤ length o
-      fill-room = let z = sum in let r = w .room in omega arith
+      fill-room = let r = both-room in omega arith
 
-      pub fill-next : (o′ : List ℕ) (n′ : ℕ) → Written o n (f (take (e - (at + 4)) (drop (at + 4) s))) n′ o′ → Filling f t s o₀ from o′ n′ e
+      pub fill-next : (o′ : List ℕ) (n′ : ℕ) → Put o n (f (take (e - (at + 4)) (drop (at + 4) s))) n′ o′ → Filling f t s o₀ from o′ n′ e
       fill-next o′ n′ v =
-          let z = sum in
-          let r = w .room in
-          let u = w .count in
-          let c = v .behind in
-          let q : length o′ ≡ length o = ap length (v .out) ∙ put-length o n (f (bodyAt s at e)) fill-room in
-          let g : put (put o n (f (bodyAt s at e))) (n + length (f (bodyAt s at e))) (each f (bodies t (walk (drop e s)))) ≡ put o n (each f (bodies t (walk (drop at s))))
-          = put-put o n (f (bodyAt s at e)) (each f (bodies t (walk (drop e s)))) fill-room ∙ ap (put o n) (sym split) in
           record {
-            whole = w .whole ∙ (sym g ∙ rw (c, v .out));
-            count = omega arith;
-            room = omega arith;
-            long = q ∙ w .long;
+            rest = λ q. w .rest (rw split (next-put o n (f (bodyAt s at e)) (each f (bodies t (walk (drop e s)))) o′ n′ both-room v q));
+            room = next-room o n (f (bodyAt s at e)) (each f (bodies t (walk (drop e s)))) o′ n′ both-room v;
+            long = ap length (v .out) ∙ (put-length o n (f (bodyAt s at e)) fill-room ∙ w .long);
           }
 
 -- a record has room
@@ -139,7 +121,7 @@ module _ (k n : ℕ) (b s o : List ℕ) (id : ℕ) (p : s ≡ drop 4 b) (q : id 
     pub proposed-room : n + length (bodyRecords k b) ≤ length o → n + length (each (recordOf id 0 a) (bodies 0x40 (walk s))) ≤ length o
     proposed-room h = rw proposed-is h
 
-    pub proposed-written : (m : ℕ) (o′ : List ℕ) → Written o n (each (recordOf id 0 a) (bodies 0x40 (walk s))) m o′ → Written o n (bodyRecords k b) m o′
+    pub proposed-written : (m : ℕ) (o′ : List ℕ) → Put o n (each (recordOf id 0 a) (bodies 0x40 (walk s))) m o′ → Put o n (bodyRecords k b) m o′
     proposed-written m o′ w = rw proposed-is at w
 
   module _ (e : k ≡ 0x20 → ⊥) (result : ℕ) (g : result ≡ getD b 2 0) (x : List ℕ) (u : x ≡ first (bodies 0x40 (walk s))) where
@@ -150,7 +132,7 @@ module _ (k n : ℕ) (b s o : List ℕ) (id : ℕ) (p : s ≡ drop 4 b) (q : id 
     pub answered-room : n + length (bodyRecords k b) ≤ length o → n + 132 ≤ length o
     answered-room h = let l = ap length answered-is in let r = record-132 id result [] x in omega arith
 
-    pub answered-written : (m : ℕ) (o′ : List ℕ) → Written o n (recordOf id result [] x) m o′ → Written o n (bodyRecords k b) m o′
+    pub answered-written : (m : ℕ) (o′ : List ℕ) → Put o n (recordOf id result [] x) m o′ → Put o n (bodyRecords k b) m o′
     answered-written m o′ w = rw answered-is at w
 
 pub ruleset context-laws = (needs, proposed-room, proposed-written, answered-room, answered-written)

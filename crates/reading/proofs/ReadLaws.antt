@@ -15,6 +15,7 @@ use Rattle.laws.specs.Lists.{all}
 use Rattle.laws.proofs.Booleans.{left-of, right-of}
 use Rattle.laws.proofs.Places.{part-tail}
 use Rattle.octets.specs.Octets.{be16}
+use Rattle.octets.specs.Private.Put.{Put}
 use Rattle.octets.specs.Put.{front}
 use Rattle.octets.proofs.PutLaws.{put-front}
 use Rattle.names.specs.Name.{nameOk}
@@ -29,7 +30,7 @@ use Rattle.sheets.specs.Sheet.{contextRecords, sheetOf, answerSheetOf}
 use Rattle.sheets.specs.Record.{recordOf}
 use Rattle.sheets.proofs.RecordLaws.{record-whole}
 use Rattle.reading.specs.Associate.{contextOf, answerOf, proposed, answered, applicationOf, applicationAt, sheetIn, refused, fieldsOf, associateOf, filling, Read}
-use Rattle.reading.specs.Private.Records.{each, bodyRecords, allRecords, bodyRows, rowsOf, Written, contextType, fieldsWith}
+use Rattle.reading.specs.Private.Records.{each, bodyRecords, allRecords, bodyRows, rowsOf, contextType, fieldsWith}
 use Rattle.reading.specs.declared.associate.Associate.{Associate}
 use Rattle.reading.proofs.FillLaws.{record-132}
 
@@ -172,7 +173,7 @@ module _ (x o : List ℕ) (kind b : ℕ) (a : 1 ≤ kind) (c : kind ≤ 2) (e : 
         pub read-room : length (allRecords k (take (length x - 74) (drop 74 x))) ≤ length o
         read-room = let s = size-is in let z = ap length sheet-is in omega arith
 
-        pub read-done : (r : Associate) (m : ℕ) (o′ : List ℕ) → Written o 0 (allRecords k (take (length x - 74) (drop 74 x))) m o′ → r ≡ fieldsWith x n → Read kind x o r o′
+        pub read-done : (r : Associate) (m : ℕ) (o′ : List ℕ) → Put o 0 (allRecords k (take (length x - 74) (drop 74 x))) m o′ → r ≡ fieldsWith x n → Read kind x o r o′
         unfolding associateOf filling
         read-done r m o′ w q =
             let s = size-is in

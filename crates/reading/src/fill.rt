@@ -3,9 +3,10 @@ ghost use mathlib.Core.Path.{_≡_};
 ghost use Prim.Native.Nat.{_+_, _≤_};
 ghost use lib.ListN.{length, drop};
 ghost use Rattle.numbers.specs.Lengths.{RECORD};
+ghost use Rattle.octets.specs.Private.Put.{Put};
 ghost use Rattle.items.specs.Items.{walk, bodies};
 ghost use Rattle.sheets.specs.Record.{recordOf};
-ghost use Rattle.reading.specs.Private.Records.{each, bodyRecords, allRecords, bodyRows, rowsOf, Written};
+ghost use Rattle.reading.specs.Private.Records.{each, bodyRecords, allRecords, bodyRows, rowsOf};
 
 // What follows the four bytes of a context.
 fn behind_four(b: &[u8]) -> &[u8]
@@ -48,7 +49,7 @@ pub(crate) fn rows(k: u8, s: &[u8]) -> usize
 
 fn put_record(sheet: &mut [u8], n: usize, id: u8, result: u8, a: &[u8], x: &[u8]) -> usize
     requires { ⌜ n + RECORD ≤ length (now sheet) ⌝ }
-    ensures { λ r. ⌜ Written (now (sheet .entry)) n (recordOf id result (now (a .entry)) (now (x .entry))) r (now (sheet .exit)) ⌝ }
+    ensures { λ r. ⌜ Put (now (sheet .entry)) n (recordOf id result (now (a .entry)) (now (x .entry))) r (now (sheet .exit)) ⌝ }
 {
     let r = sheets::record_of(id, result, a, x);
     octets::put(sheet, n, &r)
@@ -57,7 +58,7 @@ fn put_record(sheet: &mut [u8], n: usize, id: u8, result: u8, a: &[u8], x: &[u8]
 // One record for each transfer syntax.
 fn put_transfers(sheet: &mut [u8], from: usize, id: u8, a: &[u8], s: &[u8]) -> usize
     requires { ⌜ from + length (each (recordOf id 0 (now a)) (bodies 0x40 (walk (now s)))) ≤ length (now sheet) ⌝ }
-    ensures { λ r. ⌜ Written (now (sheet .entry)) from (each (recordOf id 0 (now (a .entry))) (bodies 0x40 (walk (now (s .entry))))) r (now (sheet .exit)) ⌝ }
+    ensures { λ r. ⌜ Put (now (sheet .entry)) from (each (recordOf id 0 (now (a .entry))) (bodies 0x40 (walk (now (s .entry))))) r (now (sheet .exit)) ⌝ }
 {
     let mut n = from;
     let mut at = 0;
@@ -77,7 +78,7 @@ fn put_transfers(sheet: &mut [u8], from: usize, id: u8, a: &[u8], s: &[u8]) -> u
 
 fn put_context(k: u8, sheet: &mut [u8], n: usize, b: &[u8]) -> usize
     requires { ⌜ n + length (bodyRecords k (now b)) ≤ length (now sheet) ⌝ }
-    ensures { λ r. ⌜ Written (now (sheet .entry)) n (bodyRecords k (now (b .entry))) r (now (sheet .exit)) ⌝ }
+    ensures { λ r. ⌜ Put (now (sheet .entry)) n (bodyRecords k (now (b .entry))) r (now (sheet .exit)) ⌝ }
 {
     let s = behind_four(b);
     let id = octets::byte_at(b, 0);
@@ -96,7 +97,7 @@ fn put_context(k: u8, sheet: &mut [u8], n: usize, b: &[u8]) -> usize
 
 pub(crate) fn put_contexts(k: u8, sheet: &mut [u8], s: &[u8]) -> usize
     requires { ⌜ length (allRecords k (now s)) ≤ length (now sheet) ⌝ }
-    ensures { λ r. ⌜ Written (now (sheet .entry)) 0 (allRecords k (now (s .entry))) r (now (sheet .exit)) ⌝ }
+    ensures { λ r. ⌜ Put (now (sheet .entry)) 0 (allRecords k (now (s .entry))) r (now (sheet .exit)) ⌝ }
 {
     let mut n = 0;
     let mut at = 0;

@@ -1,12 +1,10 @@
 -- For the private functions: the records of the contexts in an RQ or AC, and how many they are. Names longer than a field are cut, which no valid PDU has.
 use Prim.Native.Nat.{ℕ, _+_}
-use mathlib.Core.Path.{_≡_}
 use mathlib.Core.Bool.{cond}
 use mathlib.Core.List.{List, [], _∷_, _++_}
 use lib.ListN.{length}
 use lib.Dec.{eqb}
 use Rattle.numbers.specs.Kinds.{ASSOCIATE-RQ}
-use Rattle.octets.specs.Put.{put}
 use Rattle.items.specs.Items.{walk, bodies}
 use Rattle.contents.specs.Contents.{maximumIn}
 use Rattle.judging.specs.Pdu.{versionOf, topItems}
@@ -36,11 +34,6 @@ bodyRows k b = cond (eqb k 0x20) (length (contextOf b .transfers)) 1
 unfoldable pub rowsOf : ℕ → List (List ℕ) → ℕ
 rowsOf k [] = 0
 rowsOf k (b ∷ bs) = bodyRows k b + rowsOf k bs
-
--- bs were put into o at a place, which is now o′, and r is the place behind them
-pub record Written (o : List ℕ) (at : ℕ) (bs : List ℕ) (r : ℕ) (o′ : List ℕ) : Type 0 where
-  pub behind : r ≡ at + length bs
-  pub out : o′ ≡ put o at bs
 
 -- the type of a context in a PDU of this kind
 unfoldable pub contextType : ℕ → ℕ
