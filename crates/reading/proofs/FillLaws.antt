@@ -1,9 +1,9 @@
 -- Records put into the sheet, one body after the other: the loops of filling and of counting.
 -- Assumes nothing.
-use Prim.Native.Nat.{ℕ, _+_, _-_, _^_, _≤_, _<_}
+use Prim.Native.Nat.{ℕ, _+_, _-_, _*_, _^_, _≤_, _<_}
 use native.Mathlib.Omega.{arith}
 use mathlib.Core.Bool.{Bool, true, false, cond}
-use mathlib.Core.List.{List, [], _++_}
+use mathlib.Core.List.{List, [], _∷_, _++_}
 use mathlib.Core.Path.{_≡_, refl, sym, ap, _∙_}
 use lib.ListN.{length, take, drop, getD, length-append, length-drop, drop-of-length-le}
 use lib.Dec.{eqb}
@@ -22,7 +22,7 @@ use Rattle.items.proofs.PlaceLaws.{stands}
 use Rattle.sheets.specs.Record.{recordOf}
 use Rattle.sheets.proofs.RecordLaws.{record-length, cut-short}
 use Rattle.reading.specs.Associate.{contextOf, answerOf}
-use Rattle.reading.specs.Private.Records.{each, bodyRecords, bodyRows, rowsOf}
+use Rattle.reading.specs.Private.Records.{each, bodyRecords, allRecords}
 
 -- ---- one record
 pub record-132 : (id result : ℕ) (a x : List ℕ) → length (recordOf id result a x) ≡ 132
@@ -46,6 +46,12 @@ pub four-tail : (b : List ℕ) → take (length b - 4) (drop 4 b) ≡ drop 4 b
 four-tail b = part-tail 4 b
 
 pub ruleset four-laws = (needs, four-short, four-tail)
+
+-- ---- the first body, and those behind it
+each-more : (f : List ℕ → List ℕ) (t : ℕ) (s : List ℕ) (at e : ℕ) → e ≡ itemEnd s at → (e ≡ 0 → ⊥) → getD s at 0 ≡ t
+    → each f (bodies t (walk (drop at s))) ≡ f (bodyAt s at e) ++ each f (bodies t (walk (drop e s)))
+unfolding each
+each-more f t s at e p k h = rw (bodies-more t (more s at e p k) h)
 
 -- ---- the loop that puts f of each body of a type: o₀ was the sheet, o is now, n is the place behind what is done, and what is left has room
 pub record Filling (f : List ℕ → List ℕ) (t : ℕ) (s o₀ : List ℕ) (from : ℕ) (o : List ℕ) (n at : ℕ) : Type 0 where
@@ -80,8 +86,7 @@ module _ (f : List ℕ → List ℕ) (t : ℕ) (s o₀ : List ℕ) (from : ℕ) 
 
     module _ (h : getD s at 0 ≡ t) where
       split : each f (bodies t (walk (drop at s))) ≡ f (bodyAt s at e) ++ each f (bodies t (walk (drop e s)))
-      unfolding each
-      split = rw (bodies-more t (more s at e p k) h)
+      split = each-more f t s at e p k h
 
       both-room : n + (length (f (bodyAt s at e)) + length (each f (bodies t (walk (drop e s))))) ≤ length o
       both-room = let z = ap length split ∙ length-append (f (bodyAt s at e)) (each f (bodies t (walk (drop e s)))) in let r = w .room in omega arith
@@ -137,41 +142,50 @@ module _ (k n : ℕ) (b s o : List ℕ) (id : ℕ) (p : s ≡ drop 4 b) (q : id 
 
 pub ruleset context-laws = (needs, proposed-room, proposed-written, answered-room, answered-written)
 
--- ---- counting
-pub rows-proposed : (k r : ℕ) (b x : List ℕ) → k ≡ 0x20 → x ≡ drop 4 b → r ≡ length (bodies 0x40 (walk x)) → r ≡ bodyRows k b
-unfolding bodyRows contextOf
-rows-proposed k r b x e p q = q ∙ rw (p, e)
+-- ---- counting: 132 bytes for each record
+each-size : (id : ℕ) (a : List ℕ) (xs : List (List ℕ)) → length (each (recordOf id 0 a) xs) ≡ 132 * length xs
+unfolding each
+each-size id a [] = refl
+each-size id a (x ∷ xs) = let l = record-132 id 0 a x in let m = each-size id a xs in simp length-append (omega arith)
 
-pub rows-answered : (k : ℕ) (b : List ℕ) → (k ≡ 0x20 → ⊥) → 1 ≡ bodyRows k b
-unfolding bodyRows
-rows-answered k b e = rw (ne-eqb k 0x20 e)
+pub rows-proposed : (k r : ℕ) (b x : List ℕ) → k ≡ 0x20 → x ≡ drop 4 b → r ≡ length (bodies 0x40 (walk x)) → 132 * r ≡ length (bodyRecords k b)
+unfolding bodyRecords contextOf
+rows-proposed k r b x e p q = rw (q, p, e) (sym (each-size (contextOf b .id) (contextOf b .abstr) (contextOf b .transfers)))
+
+pub rows-answered : (k : ℕ) (b : List ℕ) → (k ≡ 0x20 → ⊥) → 132 * 1 ≡ length (bodyRecords k b)
+unfolding bodyRecords
+rows-answered k b e = rw (ne-eqb k 0x20 e) (sym (record-132 (answerOf b .id) (answerOf b .result) [] (answerOf b .transfer)))
 
 pub ruleset rows-in-laws = (needs, rows-proposed, rows-answered)
 
 -- no context gives more records than it has bytes
-few : (k : ℕ) (b : List ℕ) → bodyRows k b ≤ 4 + length b
-unfolding bodyRows contextOf
+few : (k : ℕ) (b : List ℕ) → length (bodyRecords k b) ≤ 132 * (4 + length b)
+unfolding bodyRecords contextOf
 few k b = go (eqb k 0x20)
   where
-    go : (d : Bool) → cond d (length (bodies 0x40 (walk (drop 4 b)))) 1 ≤ 4 + length b
-    go true = let f = stands 0x40 (drop 4 b) .few in let l = length-drop 4 b in omega arith
-    go false = omega arith
+    go : (d : Bool)
+        → length (cond d (each (recordOf (contextOf b .id) 0 (contextOf b .abstr)) (bodies 0x40 (walk (drop 4 b)))) (recordOf (answerOf b .id) (answerOf b .result) [] (answerOf b .transfer)))
+        ≤ 132 * (4 + length b)
+    go true = let f = stands 0x40 (drop 4 b) .few in let l = length-drop 4 b in let z = each-size (contextOf b .id) (contextOf b .abstr) (bodies 0x40 (walk (drop 4 b))) in omega arith
+    go false = let z = record-132 (answerOf b .id) (answerOf b .result) [] (answerOf b .transfer) in omega arith
 
 pub record Rows (k : ℕ) (s : List ℕ) (n at : ℕ) : Type 0 where
-  pub count : rowsOf k (bodies k (walk s)) ≡ n + rowsOf k (bodies k (walk (drop at s)))
+  pub count : length (allRecords k s) ≡ 132 * n + length (allRecords k (drop at s))
   pub below : n ≤ at
 
 pub rows-start : (k : ℕ) (s : List ℕ) → Rows k s 0 0
 rows-start k s = record { count = omega arith; below = omega arith }
 
 module _ (k : ℕ) (s : List ℕ) (n at : ℕ) (w : Rows k s n at) where
-  pub rows-stop : (e : ℕ) → e ≡ itemEnd s at → e ≡ 0 → at < length s → n ≡ rowsOf k (bodies k (walk s))
-  unfolding rowsOf
-  rows-stop e p z l = let c = w .count in let q : rowsOf k (bodies k (walk (drop at s))) ≡ 0 = rw (bodies-stop k s at e p z l) in omega arith
+  counted : bodies k (walk (drop at s)) ≡ [] → 132 * n ≡ length (allRecords k s)
+  unfolding each
+  counted e = let c = w .count in let z : length (allRecords k (drop at s)) ≡ 0 = rw e in omega arith
 
-  pub rows-over : length s ≤ at → n ≡ rowsOf k (bodies k (walk s))
-  unfolding rowsOf
-  rows-over h = let c = w .count in let q : rowsOf k (bodies k (walk (drop at s))) ≡ 0 = rw (bodies-over k s at h) in omega arith
+  pub rows-stop : (e : ℕ) → e ≡ itemEnd s at → e ≡ 0 → at < length s → 132 * n ≡ length (allRecords k s)
+  rows-stop e p z l = counted (bodies-stop k s at e p z l)
+
+  pub rows-over : length s ≤ at → 132 * n ≡ length (allRecords k s)
+  rows-over h = counted (bodies-over k s at h)
 
   module _ (e : ℕ) (p : e ≡ itemEnd s at) (ne : e ≡ 0 → ⊥) where
     pub rows-skip : (getD s at 0 ≡ k → ⊥) → Rows k s n e
@@ -180,7 +194,7 @@ module _ (k : ℕ) (s : List ℕ) (n at : ℕ) (w : Rows k s n at) where
         let b = w .below in
         record { count = w .count ∙ rw (bodies-skip k i h); below = omega arith }
 
-    module _ (r : ℕ) (q : r ≡ bodyRows k (take (e - (at + 4)) (drop (at + 4) s))) where
+    module _ (r : ℕ) (q : 132 * r ≡ length (bodyRecords k (take (e - (at + 4)) (drop (at + 4) s)))) where
       upto : n + r ≤ e
       upto =
           let i = more s at e p ne in
@@ -193,10 +207,9 @@ module _ (k : ℕ) (s : List ℕ) (n at : ℕ) (w : Rows k s n at) where
       rows-fits h = let u = upto in let i = more s at e p ne in omega arith
 
       pub rows-more : getD s at 0 ≡ k → Rows k s (n + r) e
-      unfolding rowsOf
       rows-more h =
-          let i = more s at e p ne in
-          let c : rowsOf k (bodies k (walk s)) ≡ n + (r + rowsOf k (bodies k (walk (drop e s)))) = w .count ∙ rw (bodies-more k i h, q) in
+          let c = w .count in
+          let z = ap length (each-more (bodyRecords k) k s at e p ne h) ∙ length-append (bodyRecords k (bodyAt s at e)) (allRecords k (drop e s)) in
           record { count = omega arith; below = upto }
 
 pub ruleset rows-laws = (rows-start, rows-stop, rows-over, rows-skip, rows-fits, rows-more, walking)

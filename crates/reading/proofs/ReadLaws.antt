@@ -2,10 +2,10 @@
 -- Assumes nothing.
 use Prim.Native.Nat.{ℕ, _+_, _-_, _*_, _/_, _^_, _≤_, _<_}
 use native.Mathlib.Omega.{arith}
-use mathlib.Core.Bool.{Bool, true, false, cond}
+use mathlib.Core.Bool.{Bool, true, false}
 use mathlib.Core.List.{List, [], _∷_, map}
 use mathlib.Core.Path.{_≡_, refl, sym, ap, _∙_}
-use lib.ListN.{length, take, drop, length-append, length-drop}
+use lib.ListN.{length, take, drop, length-drop}
 use lib.Dec.{ltb, eqb}
 use borrow.Author.Needs.{needs}
 use mir.Val.{Fits}
@@ -30,36 +30,8 @@ use Rattle.sheets.specs.Sheet.{contextRecords, sheetOf, answerSheetOf}
 use Rattle.sheets.specs.Record.{recordOf}
 use Rattle.sheets.proofs.RecordLaws.{record-whole}
 use Rattle.reading.specs.Associate.{contextOf, answerOf, proposed, answered, applicationOf, applicationAt, sheetIn, refused, fieldsOf, associateOf, filling, Read}
-use Rattle.reading.specs.Private.Records.{each, bodyRecords, allRecords, bodyRows, rowsOf, contextType, fieldsWith}
+use Rattle.reading.specs.Private.Records.{each, bodyRecords, allRecords, contextType, fieldsWith}
 use Rattle.reading.specs.declared.associate.Associate.{Associate}
-use Rattle.reading.proofs.FillLaws.{record-132}
-
--- ---- 132 bytes for each record
-each-size : (id : ℕ) (a : List ℕ) (xs : List (List ℕ)) → length (each (recordOf id 0 a) xs) ≡ 132 * length xs
-unfolding each
-each-size id a [] = refl
-each-size id a (x ∷ xs) =
-    let l = record-132 id 0 a x in
-    let m = each-size id a xs in
-    length-append (recordOf id 0 a x) (each (recordOf id 0 a) xs) ∙ (let z : length (recordOf id 0 a x) + length (each (recordOf id 0 a) xs) ≡ 132 * length (x ∷ xs) = omega arith in z)
-
-body-size : (k : ℕ) (b : List ℕ) → length (bodyRecords k b) ≡ 132 * bodyRows k b
-unfolding bodyRecords bodyRows
-body-size k b = go (eqb k 0x20)
-  where
-    go : (d : Bool)
-        → length (cond d (each (recordOf (contextOf b .id) 0 (contextOf b .abstr)) (contextOf b .transfers)) (recordOf (answerOf b .id) (answerOf b .result) [] (answerOf b .transfer)))
-        ≡ 132 * cond d (length (contextOf b .transfers)) 1
-    go true = each-size (contextOf b .id) (contextOf b .abstr) (contextOf b .transfers)
-    go false = record-132 (answerOf b .id) (answerOf b .result) [] (answerOf b .transfer)
-
-all-size : (k : ℕ) (bs : List (List ℕ)) → length (each (bodyRecords k) bs) ≡ 132 * rowsOf k bs
-unfolding each rowsOf
-all-size k [] = refl
-all-size k (b ∷ bs) =
-    let l = body-size k b in
-    let m = all-size k bs in
-    length-append (bodyRecords k b) (each (bodyRecords k) bs) ∙ (let z : length (bodyRecords k b) + length (each (bodyRecords k) bs) ≡ 132 * (bodyRows k b + rowsOf k bs) = omega arith in z)
 
 -- ---- a valid PDU has no name that is too long for its field
 whole-records : (id : ℕ) (a : List ℕ) (xs : List (List ℕ)) → nameOk a ≡ true → all nameOk xs ≡ true → each (recordOf id 0 a) xs ≡ contextRecords id a xs
@@ -155,12 +127,12 @@ module _ (x o : List ℕ) (kind b : ℕ) (a : 1 ≤ kind) (c : kind ≤ 2) (e : 
     pub read-long : 74 ≤ length x
     read-long = read-long-of x kind a c is
 
-    module _ (k n : ℕ) (p : k ≡ contextType kind) (g : n ≡ rowsOf k (bodies k (walk (take (length x - 74) (drop 74 x))))) where
+    module _ (k n : ℕ) (p : k ≡ contextType kind) (g : 132 * n ≡ length (allRecords k (take (length x - 74) (drop 74 x)))) where
       sheet-is : allRecords k (take (length x - 74) (drop 74 x)) ≡ sheetIn kind x
       sheet-is = rw (part-tail 74 x, p) (sheet-of x kind a c is)
 
       size-is : length (sheetIn kind x) ≡ 132 * n
-      size-is = ap length (sym sheet-is) ∙ (all-size k (bodies k (walk (take (length x - 74) (drop 74 x)))) ∙ rw (← g))
+      size-is = ap length (sym sheet-is) ∙ sym g
 
       pub read-narrow : (r : Associate) → length o / 132 < n → r ≡ refused 2 → Read kind x o r o
       unfolding associateOf filling front

@@ -1,12 +1,12 @@
 // The records of the contexts of an RQ or an AC, put into a lent sheet in PDU order: k is the type of a context, 20H or 21H.
 ghost use mathlib.Core.Path.{_≡_};
-ghost use Prim.Native.Nat.{_+_, _≤_};
+ghost use Prim.Native.Nat.{_+_, _*_, _≤_};
 ghost use lib.ListN.{length, drop};
 ghost use Rattle.numbers.specs.Lengths.{RECORD};
 ghost use Rattle.octets.specs.Private.Put.{Put};
 ghost use Rattle.items.specs.Items.{walk, bodies};
 ghost use Rattle.sheets.specs.Record.{recordOf};
-ghost use Rattle.reading.specs.Private.Records.{each, bodyRecords, allRecords, bodyRows, rowsOf};
+ghost use Rattle.reading.specs.Private.Records.{each, bodyRecords, allRecords};
 
 // What follows the four bytes of a context.
 fn behind_four(b: &[u8]) -> &[u8]
@@ -20,7 +20,7 @@ fn behind_four(b: &[u8]) -> &[u8]
 
 // How many records a context gives: one per transfer syntax in an RQ, one in an AC.
 fn rows_in(k: u8, b: &[u8]) -> usize
-    ensures { λ r. ⌜ r ≡ bodyRows k (now (b .entry)) ⌝ }
+    ensures { λ r. ⌜ RECORD * r ≡ length (bodyRecords k (now (b .entry))) ⌝ }
 {
     if k == 0x20 {
         return items::count_of(0x40, behind_four(b));
@@ -29,7 +29,7 @@ fn rows_in(k: u8, b: &[u8]) -> usize
 }
 
 pub(crate) fn rows(k: u8, s: &[u8]) -> usize
-    ensures { λ r. ⌜ r ≡ rowsOf k (bodies k (walk (now (s .entry)))) ⌝ }
+    ensures { λ r. ⌜ RECORD * r ≡ length (allRecords k (now (s .entry))) ⌝ }
 {
     let mut n = 0;
     let mut at = 0;

@@ -1,4 +1,4 @@
--- For the private functions: the records of the contexts in an RQ or AC, and how many they are. Names longer than a field are cut, which no valid PDU has.
+-- For the private functions: the records of the contexts in an RQ or AC. Names longer than a field are cut, which no valid PDU has.
 use Prim.Native.Nat.{ℕ, _+_}
 use mathlib.Core.Bool.{cond}
 use mathlib.Core.List.{List, [], _∷_, _++_}
@@ -26,14 +26,6 @@ bodyRecords k b =
 -- those of all contexts
 abbrev pub allRecords : ℕ → List ℕ → List ℕ
 allRecords k s = each (bodyRecords k) (bodies k (walk s))
-
--- how many they are
-unfoldable pub bodyRows : ℕ → List ℕ → ℕ
-bodyRows k b = cond (eqb k 0x20) (length (contextOf b .transfers)) 1
-
-unfoldable pub rowsOf : ℕ → List (List ℕ) → ℕ
-rowsOf k [] = 0
-rowsOf k (b ∷ bs) = bodyRows k b + rowsOf k bs
 
 -- the type of a context in a PDU of this kind
 unfoldable pub contextType : ℕ → ℕ
