@@ -3,17 +3,16 @@
 use Prim.Native.Nat.{ℕ, zero, suc, _+_, _-_, _^_, _≤_, _<_}
 use native.Mathlib.Omega.{arith}
 use native.Mathlib.Numerals.{add-one}
-use mathlib.Core.Bool.{Bool, true, false, _&&_, cond}
-use mathlib.Core.List.{List, [], _∷_, _++_}
+use mathlib.Core.Bool.{Bool, true, false}
+use mathlib.Core.List.{List, [], _∷_}
 use mathlib.Core.Path.{_≡_, refl, sym, ap, _∙_}
 use lib.ListN.{length, take, drop, getD, length-drop, drop-of-length-le}
-use lib.Seq.{drop-drop, take-suc, drop-cons, take-all, length-take-le, getD-drop}
-use lib.Dec.{leb, ltb, eqb}
+use lib.Seq.{drop-drop, take-all, length-take-le, getD-drop}
+use lib.Dec.{ltb, eqb}
 use borrow.Author.Needs.{needs}
-use borrow.Author.Tests.{lt-ltb, le-ltb, ltb-true, eq-eqb, ne-eqb, eqb-true, eqb-false}
+use borrow.Author.Tests.{lt-ltb, le-ltb, ltb-true, ne-eqb, eqb-true, eqb-false}
 use mir.Val.{Fits}
 use mir.Syntax.{w64}
-use Rattle.laws.proofs.Booleans.{left-of, right-of}
 use Rattle.laws.proofs.Places.{part-tail}
 use Rattle.octets.proofs.SliceLaws.{place-from}
 use Rattle.pdvs.specs.Data.{Pdv, pdvs, size, pdvEnd}

@@ -6,6 +6,7 @@ use mathlib.Core.Path.{_≡_, refl}
 use lib.ListN.{length, replicate}
 use Rattle.laws.specs.Lists.{among, distinct}
 use Rattle.laws.specs.Text.{bytes}
+use Rattle.numbers.specs.Kinds.{ASSOCIATE-RQ, DATA-TF}
 use Rattle.octets.specs.Octets.{four, be16, be32}
 use Rattle.names.specs.Name.{nameOk}
 use Rattle.titles.specs.Title.{titleOk}
@@ -24,22 +25,27 @@ use Rattle.reading.specs.Values.{rejectIn, abortIn}
 abbrev two-pdvs : List ℕ
 two-pdvs = 4 ∷ 0 ∷ (four 15 ++ (0 ∷ 0 ∷ 0 ∷ 5 ∷ 1 ∷ 0xFC ∷ 7 ∷ 8 ∷ 9 ∷ 0 ∷ 0 ∷ 0 ∷ 2 ∷ 3 ∷ 2 ∷ []))
 
+-- what the examples unfold to compute with it
+data-kind : kindOf two-pdvs ≡ DATA-TF
+unfolding kindOf validAs whole dataOk pdvStep pdvsIn pdvs pdvOk pdvsOk be16 be32
+data-kind = refl
+
 -- the first fragment starts at 12; the control byte is as received
 pub first-pdv : dataOf two-pdvs 0 ≡ record { refusal = 0; id = 1; control = 0xFC; start = 12; len = 3 }
-unfolding dataOf pdvsOf pdv startOf kindOf validAs whole dataOk pdvStep pdvsIn pdvs pdvOk pdvsOk be16 be32
+unfolding data-kind dataOf pdvsOf pdv startOf
 first-pdv = refl
 
 -- an empty fragment at the end starts where the PDU ends
 pub second-pdv : dataOf two-pdvs 1 ≡ record { refusal = 0; id = 3; control = 2; start = 21; len = 0 }
-unfolding dataOf pdvsOf pdv startOf kindOf validAs whole dataOk pdvStep pdvsIn pdvs pdvOk pdvsOk be16 be32
+unfolding data-kind dataOf pdvsOf pdv startOf
 second-pdv = refl
 
 pub no-third : dataOf two-pdvs 2 ≡ record { refusal = 4; id = 0; control = 0; start = 0; len = 0 }
-unfolding dataOf pdvsOf pdv startOf kindOf validAs whole dataOk pdvStep pdvsIn pdvs pdvOk pdvsOk be16 be32
+unfolding data-kind dataOf pdvsOf pdv startOf
 no-third = refl
 
 pub own-part : fragmentOf two-pdvs 0 ≡ 7 ∷ 8 ∷ 9 ∷ []
-unfolding fragmentOf dataOf pdvsOf pdv startOf kindOf validAs whole dataOk pdvStep pdvsIn pdvs pdvOk pdvsOk be16 be32
+unfolding data-kind fragmentOf dataOf pdvsOf pdv startOf
 own-part = refl
 
 -- ---- an ABORT of source 0 with reason 9 is read; one of source 1 is refused, and so is an RJ
@@ -78,15 +84,24 @@ body = 0 ∷ 3 ∷ 0 ∷ 0 ∷ (bytes "STORE-EXOTIC    " ++ (bytes "STORE-EQUINE
 abbrev request : List ℕ
 request = 1 ∷ 0 ∷ (four (length body) ++ body)
 
+request-kind : kindOf request ≡ ASSOCIATE-RQ
+unfolding kindOf validAs whole requestOk subsOk good20H one userGood good50H contextGood topGood topOk ids itemsOk step walkIn walk filled bodies types only goodBodies holds itemBytes nameOk titleOk be16 be32 among distinct
+request-kind = refl
+
+-- its contexts as records
+request-sheet : sheetIn ASSOCIATE-RQ request ≡ recordBytes 5 0 verification implicit ++ recordBytes 5 0 verification explicit
+unfolding request-kind sheetIn proposed contextOf contextRecords sheetOf recordBytes
+request-sheet = refl
+
 pub request-read : associateOf 1 request 300 ≡ record { refusal = 0; version = 3; «application_at» = 84; «application_len» = 21; maximum = 32768; records = 2 }
-unfolding associateOf sheetIn proposed contextOf contextRecords sheetOf recordBytes applicationOf applicationAt kindOf maximumOf maximumIn validAs whole requestOk subsOk good20H one userGood good50H contextGood topGood topOk ids itemsOk step walkIn walk filled bodies place types only goodBodies holds itemBytes nameOk titleOk be16 be32 among distinct
+unfolding request-sheet associateOf applicationOf applicationAt maximumOf maximumIn place
 request-read = refl
 
 pub request-filled : filling 1 request 300 ≡ recordBytes 5 0 verification implicit ++ recordBytes 5 0 verification explicit
-unfolding filling sheetIn proposed contextOf contextRecords sheetOf recordBytes kindOf validAs whole requestOk subsOk good20H one userGood good50H contextGood topGood topOk ids itemsOk step walkIn walk filled bodies place types only goodBodies holds itemBytes nameOk titleOk be16 be32 among distinct
+unfolding request-sheet filling
 request-filled = refl
 
 -- one byte too little room: 2, and not the number needed
 pub request-narrow : associateOf 1 request 263 ≡ record { refusal = 2; version = 0; «application_at» = 0; «application_len» = 0; maximum = 0; records = 0 }
-unfolding associateOf sheetIn proposed contextOf contextRecords sheetOf recordBytes kindOf validAs whole requestOk subsOk good20H one userGood good50H contextGood topGood topOk ids itemsOk step walkIn walk filled bodies place types only goodBodies holds itemBytes nameOk titleOk be16 be32 among distinct
+unfolding request-sheet associateOf
 request-narrow = refl

@@ -1,28 +1,28 @@
 -- Records put into the sheet, one body after the other: the loops of filling and of counting.
 -- Assumes nothing.
-use Prim.Native.Nat.{ℕ, zero, suc, _+_, _-_, _*_, _^_, _≤_, _<_}
+use Prim.Native.Nat.{ℕ, _+_, _-_, _*_, _^_, _≤_, _<_}
 use native.Mathlib.Omega.{arith}
 use mathlib.Core.Bool.{Bool, true, false, cond}
 use mathlib.Core.List.{List, [], _∷_, _++_}
 use mathlib.Core.Path.{_≡_, refl, sym, ap, _∙_}
 use lib.ListN.{length, take, drop, getD, length-append, length-drop, drop-of-length-le}
-use lib.Seq.{take-all}
 use lib.Dec.{eqb}
 use borrow.Author.Needs.{needs}
-use borrow.Author.Tests.{eq-eqb, ne-eqb}
+use borrow.Author.Tests.{ne-eqb}
 use mir.Val.{Fits}
 use mir.Syntax.{w64}
 use Rattle.laws.proofs.Places.{part-tail}
-use Rattle.octets.specs.Put.{put, Placed}
-use Rattle.octets.proofs.PutLaws.{put-out, put-behind, put-length, put-put, put-none}
+use Rattle.octets.specs.Private.Put.{Put}
+use Rattle.octets.specs.Put.{Placed}
+use Rattle.octets.proofs.PutLaws.{placed-put, put-length, put-nothing, next-room, next-put}
 use Rattle.items.specs.Items.{walk, bodies, first, itemEnd}
 use Rattle.items.proofs.WalkLaws.{more, walking}
 use Rattle.items.proofs.ItemLaws.{bodyAt, body-length, bodies-more, bodies-skip, bodies-stop, bodies-over}
 use Rattle.items.proofs.PlaceLaws.{stands}
-use Rattle.sheets.specs.Sheet.{recordBytes}
 use Rattle.sheets.specs.Record.{recordOf}
 use Rattle.sheets.proofs.RecordLaws.{record-length, cut-short}
-use Rattle.reading.specs.Private.Records.{each, bodyRecords, bodyRows, rowsOf, Written}
+use Rattle.reading.specs.Associate.{contextOf, answerOf}
+use Rattle.reading.specs.Private.Records.{each, bodyRecords, allRecords}
 
 -- ---- one record
 pub record-132 : (id result : ℕ) (a x : List ℕ) → length (recordOf id result a x) ≡ 132
@@ -30,13 +30,8 @@ unfolding recordOf
 record-132 id result a x = record-length id result (take 64 a) (take 64 x) (cut-short a) (cut-short x)
 
 -- `put_record`
-pub record-written : (o o′ r a x : List ℕ) (n m id result : ℕ) → n + 132 ≤ length o → r ≡ recordOf id result a x → Placed o n r m o′ → Written o n (recordOf id result a x) m o′
-record-written o o′ r a x n m id result h e p =
-    let l : length r ≡ 132 = ap length e ∙ record-132 id result a x in
-    record {
-      behind = put-behind o n r p (omega arith) ∙ rw e;
-      out = put-out o n r p (omega arith) ∙ rw e;
-    }
+pub record-written : (o o′ r a x : List ℕ) (n m id result : ℕ) → n + 132 ≤ length o → r ≡ recordOf id result a x → Placed o n r m o′ → Put o n (recordOf id result a x) m o′
+record-written o o′ r a x n m id result h e p = let l : length r ≡ 132 = ap length e ∙ record-132 id result a x in rw e at (placed-put o n r p (omega arith))
 
 pub record-long : (r a x : List ℕ) (id result : ℕ) → r ≡ recordOf id result a x → length r ≡ 132
 record-long r a x id result e = ap length e ∙ record-132 id result a x
@@ -52,32 +47,34 @@ four-tail b = part-tail 4 b
 
 pub ruleset four-laws = (needs, four-short, four-tail)
 
--- ---- the loop that puts f of each body of a type: o₀ was the sheet, o is now, and n bytes of it are done
+-- ---- the first body, and those behind it
+each-more : (f : List ℕ → List ℕ) (t : ℕ) (s : List ℕ) (at e : ℕ) → e ≡ itemEnd s at → (e ≡ 0 → ⊥) → getD s at 0 ≡ t
+    → each f (bodies t (walk (drop at s))) ≡ f (bodyAt s at e) ++ each f (bodies t (walk (drop e s)))
+unfolding each
+each-more f t s at e p k h = rw (bodies-more t (more s at e p k) h)
+
+-- ---- the loop that puts f of each body of a type: o₀ was the sheet, o is now, n is the place behind what is done, and what is left has room
 pub record Filling (f : List ℕ → List ℕ) (t : ℕ) (s o₀ : List ℕ) (from : ℕ) (o : List ℕ) (n at : ℕ) : Type 0 where
-  pub whole : put o₀ from (each f (bodies t (walk s))) ≡ put o n (each f (bodies t (walk (drop at s))))
-  pub count : from + length (each f (bodies t (walk s))) ≡ n + length (each f (bodies t (walk (drop at s))))
+  pub rest : {r : ℕ} {o′ : List ℕ} → Put o n (each f (bodies t (walk (drop at s)))) r o′ → Put o₀ from (each f (bodies t (walk s))) r o′
   pub room : n + length (each f (bodies t (walk (drop at s)))) ≤ length o
   pub long : length o ≡ length o₀
 
 pub fill-start : (f : List ℕ → List ℕ) (t : ℕ) (s o : List ℕ) (from : ℕ) → from + length (each f (bodies t (walk s))) ≤ length o → Filling f t s o from o from 0
-fill-start f t s o from h = record { whole = refl; count = refl; room = h; long = refl }
+fill-start f t s o from h = record { rest = λ w. w; room = h; long = refl }
 
 pub fill-begin : (f : List ℕ → List ℕ) (t : ℕ) (s o : List ℕ) → length (each f (bodies t (walk s))) ≤ length o → Filling f t s o 0 o 0 0
 fill-begin f t s o h = fill-start f t s o 0 (omega arith)
 
 module _ (f : List ℕ → List ℕ) (t : ℕ) (s o₀ : List ℕ) (from : ℕ) (o : List ℕ) (n at : ℕ) (w : Filling f t s o₀ from o n at) where
   -- nothing is left
-  ended : bodies t (walk (drop at s)) ≡ [] → Written o₀ from (each f (bodies t (walk s))) n o
+  ended : bodies t (walk (drop at s)) ≡ [] → Put o₀ from (each f (bodies t (walk s))) n o
   unfolding each
-  ended e =
-      let c = w .count in
-      let z : length (each f (bodies t (walk (drop at s)))) ≡ 0 = rw e in
-      record { behind = omega arith; out = sym (w .whole ∙ (rw e (put-none o n))) }
+  ended e = w .rest (rw e (put-nothing o n))
 
-  pub fill-stop : (e : ℕ) → e ≡ itemEnd s at → e ≡ 0 → at < length s → Written o₀ from (each f (bodies t (walk s))) n o
+  pub fill-stop : (e : ℕ) → e ≡ itemEnd s at → e ≡ 0 → at < length s → Put o₀ from (each f (bodies t (walk s))) n o
   fill-stop e p z l = ended (bodies-stop t s at e p z l)
 
-  pub fill-over : length s ≤ at → Written o₀ from (each f (bodies t (walk s))) n o
+  pub fill-over : length s ≤ at → Put o₀ from (each f (bodies t (walk s))) n o
   fill-over h = ended (bodies-over t s at h)
 
   pub fill-long : length o ≡ length o₀
@@ -85,35 +82,24 @@ module _ (f : List ℕ → List ℕ) (t : ℕ) (s o₀ : List ℕ) (from : ℕ) 
 
   module _ (e : ℕ) (p : e ≡ itemEnd s at) (k : e ≡ 0 → ⊥) where
     pub fill-skip : (getD s at 0 ≡ t → ⊥) → Filling f t s o₀ from o n e
-    fill-skip h =
-        let i = bodies-skip t (more s at e p k) h in
-        record { whole = w .whole ∙ rw i; count = w .count ∙ rw i; room = rw i at (w .room); long = w .long }
+    fill-skip h = let i = bodies-skip t (more s at e p k) h in record { rest = λ q. w .rest (rw i q); room = rw i at (w .room); long = w .long }
 
     module _ (h : getD s at 0 ≡ t) where
       split : each f (bodies t (walk (drop at s))) ≡ f (bodyAt s at e) ++ each f (bodies t (walk (drop e s)))
-      unfolding each
-      split = rw (bodies-more t (more s at e p k) h)
+      split = each-more f t s at e p k h
 
-      sum : length (each f (bodies t (walk (drop at s)))) ≡ length (f (bodyAt s at e)) + length (each f (bodies t (walk (drop e s))))
-      sum = ap length split ∙ length-append (f (bodyAt s at e)) (each f (bodies t (walk (drop e s))))
+      both-room : n + (length (f (bodyAt s at e)) + length (each f (bodies t (walk (drop e s))))) ≤ length o
+      both-room = let z = ap length split ∙ length-append (f (bodyAt s at e)) (each f (bodies t (walk (drop e s)))) in let r = w .room in omega arith
 
       fill-room : n + length (f (take (e - (at + 4)) (drop (at + 4) s))) ≤ length o
-      fill-room = let z = sum in let r = w .room in omega arith
+      fill-room = let r = both-room in omega arith
 
-      pub fill-next : (o′ : List ℕ) (n′ : ℕ) → Written o n (f (take (e - (at + 4)) (drop (at + 4) s))) n′ o′ → Filling f t s o₀ from o′ n′ e
+      pub fill-next : (o′ : List ℕ) (n′ : ℕ) → Put o n (f (take (e - (at + 4)) (drop (at + 4) s))) n′ o′ → Filling f t s o₀ from o′ n′ e
       fill-next o′ n′ v =
-          let z = sum in
-          let r = w .room in
-          let u = w .count in
-          let c = v .behind in
-          let q : length o′ ≡ length o = ap length (v .out) ∙ put-length o n (f (bodyAt s at e)) fill-room in
-          let g : put (put o n (f (bodyAt s at e))) (n + length (f (bodyAt s at e))) (each f (bodies t (walk (drop e s)))) ≡ put o n (each f (bodies t (walk (drop at s))))
-          = put-put o n (f (bodyAt s at e)) (each f (bodies t (walk (drop e s)))) fill-room ∙ ap (put o n) (sym split) in
           record {
-            whole = w .whole ∙ (sym g ∙ rw (c, v .out));
-            count = omega arith;
-            room = omega arith;
-            long = q ∙ w .long;
+            rest = λ q. w .rest (rw split (next-put o n (f (bodyAt s at e)) (each f (bodies t (walk (drop e s)))) o′ n′ both-room v q));
+            room = next-room o n (f (bodyAt s at e)) (each f (bodies t (walk (drop e s)))) o′ n′ both-room v;
+            long = ap length (v .out) ∙ (put-length o n (f (bodyAt s at e)) fill-room ∙ w .long);
           }
 
 -- a record has room
@@ -130,82 +116,76 @@ fill-body k s o₀ from o n at w e p ne h = fill-room (bodyRecords k) k s o₀ f
 
 pub ruleset fill-laws = (fill-start, fill-begin, fill-stop, fill-over, fill-long, fill-skip, fill-132, fill-body, fill-next, walking)
 
--- ---- one context
-module _ (b s a : List ℕ) (id : ℕ) (p : s ≡ drop 4 b) (q : id ≡ getD b 0 0) where
-  module _ (u : a ≡ first (bodies 0x30 (walk s))) where
-    proposed-is : each (recordOf id 0 a) (bodies 0x40 (walk s)) ≡ bodyRecords 0x20 b
-    unfolding bodyRecords
-    proposed-is = rw (u, p, q)
+-- ---- `put_context`
+module _ (k n : ℕ) (b s o : List ℕ) (id : ℕ) (p : s ≡ drop 4 b) (q : id ≡ getD b 0 0) where
+  module _ (e : k ≡ 0x20) (a : List ℕ) (u : a ≡ first (bodies 0x30 (walk s))) where
+    proposed-is : each (recordOf id 0 a) (bodies 0x40 (walk s)) ≡ bodyRecords k b
+    unfolding bodyRecords contextOf
+    proposed-is = rw (u, p, q, e)
 
-    pub proposed-room : (n : ℕ) (o : List ℕ) → n + length (bodyRecords 0x20 b) ≤ length o → n + length (each (recordOf id 0 a) (bodies 0x40 (walk s))) ≤ length o
-    proposed-room n o h = rw proposed-is h
+    pub proposed-room : n + length (bodyRecords k b) ≤ length o → n + length (each (recordOf id 0 a) (bodies 0x40 (walk s))) ≤ length o
+    proposed-room h = rw proposed-is h
 
-    pub proposed-written : (n m : ℕ) (o o′ : List ℕ) → Written o n (each (recordOf id 0 a) (bodies 0x40 (walk s))) m o′ → Written o n (bodyRecords 0x20 b) m o′
-    proposed-written n m o o′ w = rw proposed-is at w
+    pub proposed-written : (m : ℕ) (o′ : List ℕ) → Put o n (each (recordOf id 0 a) (bodies 0x40 (walk s))) m o′ → Put o n (bodyRecords k b) m o′
+    proposed-written m o′ w = rw proposed-is at w
 
-  pub answered-written : (n m result : ℕ) (o o′ x : List ℕ) → result ≡ getD b 2 0 → x ≡ first (bodies 0x40 (walk s)) → Written o n (recordOf id result [] x) m o′ → Written o n (bodyRecords 0x21 b) m o′
-  unfolding bodyRecords
-  answered-written n m result o o′ x g u w = rw (g, u, p, q) at w
+  module _ (e : k ≡ 0x20 → ⊥) (result : ℕ) (g : result ≡ getD b 2 0) (x : List ℕ) (u : x ≡ first (bodies 0x40 (walk s))) where
+    answered-is : recordOf id result [] x ≡ bodyRecords k b
+    unfolding bodyRecords answerOf
+    answered-is = rw (ne-eqb k 0x20 e, g, u, p, q)
 
-pub ruleset one-laws = (needs, proposed-room, proposed-written, answered-written)
+    pub answered-room : n + length (bodyRecords k b) ≤ length o → n + 132 ≤ length o
+    answered-room h = let l = ap length answered-is in let r = record-132 id result [] x in omega arith
 
-module _ (k : ℕ) (b o : List ℕ) (n : ℕ) where
-  pub as-proposed-room : k ≡ 0x20 → n + length (bodyRecords k b) ≤ length o → n + length (bodyRecords 0x20 b) ≤ length o
-  as-proposed-room e h = rw e at h
+    pub answered-written : (m : ℕ) (o′ : List ℕ) → Put o n (recordOf id result [] x) m o′ → Put o n (bodyRecords k b) m o′
+    answered-written m o′ w = rw answered-is at w
 
-  pub as-proposed : (m : ℕ) (o′ : List ℕ) → k ≡ 0x20 → Written o n (bodyRecords 0x20 b) m o′ → Written o n (bodyRecords k b) m o′
-  as-proposed m o′ e w = rw e w
+pub ruleset context-laws = (needs, proposed-room, proposed-written, answered-room, answered-written)
 
-  other-type : (k ≡ 0x20 → ⊥) → bodyRecords k b ≡ recordOf (getD b 0 0) (getD b 2 0) [] (first (bodies 0x40 (walk (drop 4 b))))
-  unfolding bodyRecords
-  other-type e = rw (ne-eqb k 0x20 e)
+-- ---- counting: 132 bytes for each record
+each-size : (id : ℕ) (a : List ℕ) (xs : List (List ℕ)) → length (each (recordOf id 0 a) xs) ≡ 132 * length xs
+unfolding each
+each-size id a [] = refl
+each-size id a (x ∷ xs) = let l = record-132 id 0 a x in let m = each-size id a xs in simp length-append (omega arith)
 
-  pub as-answered-room : (k ≡ 0x20 → ⊥) → n + length (bodyRecords k b) ≤ length o → n + 132 ≤ length o
-  as-answered-room e h =
-      let l : length (bodyRecords k b) ≡ 132 = ap length (other-type e) ∙ record-132 (getD b 0 0) (getD b 2 0) [] (first (bodies 0x40 (walk (drop 4 b)))) in
-      omega arith
+pub rows-proposed : (k r : ℕ) (b x : List ℕ) → k ≡ 0x20 → x ≡ drop 4 b → r ≡ length (bodies 0x40 (walk x)) → 132 * r ≡ length (bodyRecords k b)
+unfolding bodyRecords contextOf
+rows-proposed k r b x e p q = rw (q, p, e) (sym (each-size (contextOf b .id) (contextOf b .abstr) (contextOf b .transfers)))
 
-  pub as-answered : (m : ℕ) (o′ : List ℕ) → (k ≡ 0x20 → ⊥) → Written o n (bodyRecords 0x21 b) m o′ → Written o n (bodyRecords k b) m o′
-  unfolding bodyRecords
-  as-answered m o′ e w = rw (other-type e) w
-
-pub ruleset context-laws = (needs, as-proposed-room, as-proposed, as-answered-room, as-answered)
-
--- ---- counting
-pub rows-proposed : (k r : ℕ) (b x : List ℕ) → k ≡ 0x20 → x ≡ drop 4 b → r ≡ length (bodies 0x40 (walk x)) → r ≡ bodyRows k b
-unfolding bodyRows
-rows-proposed k r b x e p q = q ∙ rw (p, e)
-
-pub rows-answered : (k : ℕ) (b : List ℕ) → (k ≡ 0x20 → ⊥) → 1 ≡ bodyRows k b
-unfolding bodyRows
-rows-answered k b e = rw (ne-eqb k 0x20 e)
+pub rows-answered : (k : ℕ) (b : List ℕ) → (k ≡ 0x20 → ⊥) → 132 * 1 ≡ length (bodyRecords k b)
+unfolding bodyRecords
+rows-answered k b e = rw (ne-eqb k 0x20 e) (sym (record-132 (answerOf b .id) (answerOf b .result) [] (answerOf b .transfer)))
 
 pub ruleset rows-in-laws = (needs, rows-proposed, rows-answered)
 
 -- no context gives more records than it has bytes
-few : (k : ℕ) (b : List ℕ) → bodyRows k b ≤ 4 + length b
-unfolding bodyRows
+few : (k : ℕ) (b : List ℕ) → length (bodyRecords k b) ≤ 132 * (4 + length b)
+unfolding bodyRecords contextOf
 few k b = go (eqb k 0x20)
   where
-    go : (d : Bool) → cond d (length (bodies 0x40 (walk (drop 4 b)))) 1 ≤ 4 + length b
-    go true = let f = stands 0x40 (drop 4 b) .few in let l = length-drop 4 b in omega arith
-    go false = omega arith
+    go : (d : Bool)
+        → length (cond d (each (recordOf (contextOf b .id) 0 (contextOf b .abstr)) (bodies 0x40 (walk (drop 4 b)))) (recordOf (answerOf b .id) (answerOf b .result) [] (answerOf b .transfer)))
+        ≤ 132 * (4 + length b)
+    go true = let f = stands 0x40 (drop 4 b) .few in let l = length-drop 4 b in let z = each-size (contextOf b .id) (contextOf b .abstr) (bodies 0x40 (walk (drop 4 b))) in omega arith
+    go false = let z = record-132 (answerOf b .id) (answerOf b .result) [] (answerOf b .transfer) in omega arith
 
 pub record Rows (k : ℕ) (s : List ℕ) (n at : ℕ) : Type 0 where
-  pub count : rowsOf k (bodies k (walk s)) ≡ n + rowsOf k (bodies k (walk (drop at s)))
+  pub count : length (allRecords k s) ≡ 132 * n + length (allRecords k (drop at s))
   pub below : n ≤ at
 
 pub rows-start : (k : ℕ) (s : List ℕ) → Rows k s 0 0
 rows-start k s = record { count = omega arith; below = omega arith }
 
 module _ (k : ℕ) (s : List ℕ) (n at : ℕ) (w : Rows k s n at) where
-  pub rows-stop : (e : ℕ) → e ≡ itemEnd s at → e ≡ 0 → at < length s → n ≡ rowsOf k (bodies k (walk s))
-  unfolding rowsOf
-  rows-stop e p z l = let c = w .count in let q : rowsOf k (bodies k (walk (drop at s))) ≡ 0 = rw (bodies-stop k s at e p z l) in omega arith
+  counted : bodies k (walk (drop at s)) ≡ [] → 132 * n ≡ length (allRecords k s)
+  unfolding each
+  counted e = let c = w .count in let z : length (allRecords k (drop at s)) ≡ 0 = rw e in omega arith
 
-  pub rows-over : length s ≤ at → n ≡ rowsOf k (bodies k (walk s))
-  unfolding rowsOf
-  rows-over h = let c = w .count in let q : rowsOf k (bodies k (walk (drop at s))) ≡ 0 = rw (bodies-over k s at h) in omega arith
+  pub rows-stop : (e : ℕ) → e ≡ itemEnd s at → e ≡ 0 → at < length s → 132 * n ≡ length (allRecords k s)
+  rows-stop e p z l = counted (bodies-stop k s at e p z l)
+
+  pub rows-over : length s ≤ at → 132 * n ≡ length (allRecords k s)
+  rows-over h = counted (bodies-over k s at h)
 
   module _ (e : ℕ) (p : e ≡ itemEnd s at) (ne : e ≡ 0 → ⊥) where
     pub rows-skip : (getD s at 0 ≡ k → ⊥) → Rows k s n e
@@ -214,7 +194,7 @@ module _ (k : ℕ) (s : List ℕ) (n at : ℕ) (w : Rows k s n at) where
         let b = w .below in
         record { count = w .count ∙ rw (bodies-skip k i h); below = omega arith }
 
-    module _ (r : ℕ) (q : r ≡ bodyRows k (take (e - (at + 4)) (drop (at + 4) s))) where
+    module _ (r : ℕ) (q : 132 * r ≡ length (bodyRecords k (take (e - (at + 4)) (drop (at + 4) s)))) where
       upto : n + r ≤ e
       upto =
           let i = more s at e p ne in
@@ -227,10 +207,9 @@ module _ (k : ℕ) (s : List ℕ) (n at : ℕ) (w : Rows k s n at) where
       rows-fits h = let u = upto in let i = more s at e p ne in omega arith
 
       pub rows-more : getD s at 0 ≡ k → Rows k s (n + r) e
-      unfolding rowsOf
       rows-more h =
-          let i = more s at e p ne in
-          let c : rowsOf k (bodies k (walk s)) ≡ n + (r + rowsOf k (bodies k (walk (drop e s)))) = w .count ∙ rw (bodies-more k i h, q) in
+          let c = w .count in
+          let z = ap length (each-more (bodyRecords k) k s at e p ne h) ∙ length-append (bodyRecords k (bodyAt s at e)) (allRecords k (drop e s)) in
           record { count = omega arith; below = upto }
 
 pub ruleset rows-laws = (rows-start, rows-stop, rows-over, rows-skip, rows-fits, rows-more, walking)

@@ -1,20 +1,22 @@
--- What was read: the contexts of a valid RQ are good and the sheet is theirs; the application name stands where the answer says; nothing else of the sheet changes.
+-- What was read: the contexts of a valid RQ or AC are good and the sheet is theirs; the application name stands where the answer says; a refused call leaves the sheet.
 -- Assumes nothing.
 use Prim.Native.Nat.{ℕ, _*_, _/_}
 use native.Mathlib.Omega.{arith}
-use mathlib.Core.Bool.{Bool, true, false, cond}
-use mathlib.Core.List.{List, [], _∷_, _++_, map}
+use mathlib.Core.Bool.{Bool, true, false, _&&_, cond}
+use mathlib.Core.List.{List, [], _∷_, map}
 use mathlib.Core.Path.{_≡_, refl, sym, ap, _∙_}
 use lib.ListN.{length, take, drop, getD, length-map}
-use lib.Seq.{take-at, drop-at, drop-drop}
+use lib.Seq.{drop-drop}
 use lib.Dec.{leb, eqb}
 use borrow.Author.Tests.{le-leb, ne-eqb, eqb-true}
 use Rattle.laws.specs.Lists.{all, distinct}
 use Rattle.laws.proofs.Booleans.{left-of, right-of, both-of}
+use Rattle.numbers.specs.Kinds.{ASSOCIATE-RQ, ASSOCIATE-AC}
+use Rattle.numbers.specs.Lengths.{RECORD}
 use Rattle.octets.specs.Put.{front}
 use Rattle.items.specs.Items.{walk, bodies, first, place}
 use Rattle.items.proofs.PlaceLaws.{stands}
-use Rattle.contents.specs.Contents.{bodyId, ids, good20H, good21H}
+use Rattle.contents.specs.Contents.{bodyId, ids, good20H, good21H, itemsOk}
 use Rattle.contents.proofs.GoodLaws.{odd-20, abstract-name, some-transfer, transfer-names, odd-21, result-21, transfer-name, items-20, items-21, items-some, items-distinct}
 use Rattle.judging.specs.Pdu.{kindOf}
 use Rattle.judging.proofs.KindLaws.{request-items, accept-items}
@@ -24,78 +26,57 @@ use Rattle.sheets.proofs.Inverse.{contexts-back, contexts-proposal, answered-ba
 use Rattle.reading.specs.Associate.{contextOf, answerOf, proposed, answered, applicationOf, applicationAt, sheetIn, refused, fieldsOf, associateRefusal, associateOf, filling, Read}
 use Rattle.reading.specs.declared.associate.Associate.{Associate}
 
--- ---- the contexts of a valid RQ are good
-context-good : (b : List ℕ) → good20H b ≡ true → contextOk (contextOf b) ≡ true
+-- ---- the contexts of a valid RQ, and the answers of a valid AC, are good
+pub context-good : (b : List ℕ) → good20H b ≡ true → contextOk (contextOf b) ≡ true
 unfolding contextOk contextOf
 context-good b g = both-of _ _ (odd-20 b g) (both-of _ _ (abstract-name b g) (both-of _ _ (some-transfer b g) (transfer-names b g)))
 
-contexts-good : (bs : List (List ℕ)) → all good20H bs ≡ true → all contextOk (map contextOf bs) ≡ true
-contexts-good [] g = refl
-contexts-good (b ∷ bs) g = both-of _ _ (context-good b (left-of _ _ g)) (contexts-good bs (right-of (good20H b) _ g))
-
-context-ids : (bs : List (List ℕ)) → map contextId (map contextOf bs) ≡ map bodyId bs
-unfolding contextOf
-context-ids [] = refl
-context-ids (b ∷ bs) = rw (context-ids bs)
-
-module _ (x : List ℕ) (v : kindOf x ≡ 1) where
-  some-context : leb 1 (length (map contextOf (bodies 0x20 (walk (drop 74 x))))) ≡ true
-  some-context = rw (length-map (bodies 0x20 (walk (drop 74 x))) contextOf) (items-some 0x20 (drop 74 x) (request-items x v))
-
-  differ-20 : distinct (map bodyId (bodies 0x20 (walk (drop 74 x)))) ≡ true
-  unfolding ids
-  differ-20 = items-distinct 0x20 (drop 74 x) (request-items x v)
-
-  pub request-contexts : contextsOk (proposed x) ≡ true
-  unfolding contextsOk proposed
-  request-contexts =
-      both-of _ _ some-context
-      (both-of _ _ (contexts-good (bodies 0x20 (walk (drop 74 x))) (items-20 (drop 74 x) (request-items x v)))
-      (ap distinct (context-ids (bodies 0x20 (walk (drop 74 x)))) ∙ differ-20))
-
-  -- the filled sheet is a good proposal of just these contexts
-  pub request-sheet-good : proposalOk (sheetIn 1 x) ≡ true
-  unfolding sheetIn
-  request-sheet-good = contexts-proposal (proposed x) request-contexts
-
-  pub request-sheet-back : contextsIn (sheetIn 1 x) ≡ proposed x
-  unfolding sheetIn
-  request-sheet-back = contexts-back (proposed x) request-contexts
-
--- ---- and so are the answers of a valid AC
-answer-good : (b : List ℕ) → good21H b ≡ true → answeredOk (answerOf b) ≡ true
+pub answer-good : (b : List ℕ) → good21H b ≡ true → answeredOk (answerOf b) ≡ true
 unfolding answeredOk answerOf transferNameOk
 answer-good b g = both-of _ _ (odd-21 b g) (both-of _ _ (le-leb (getD b 2 0) 4 (result-21 b g)) (transfer-name b g))
 
-answers-good : (bs : List (List ℕ)) → all good21H bs ≡ true → all answeredOk (map answerOf bs) ≡ true
-answers-good [] g = refl
-answers-good (b ∷ bs) g = both-of _ _ (answer-good b (left-of _ _ g)) (answers-good bs (right-of (good21H b) _ g))
+-- of either, with k for the item type: what is read from good bodies is good, with their IDs
+module _ {C : Type 0} (k : ℕ) (read : List ℕ → C) (good : List ℕ → Bool) (ok : C → Bool) (id : C → ℕ)
+    (reads-good : (b : List ℕ) → good b ≡ true → ok (read b) ≡ true) (reads-id : (b : List ℕ) → id (read b) ≡ bodyId b) where
+  all-good : (bs : List (List ℕ)) → all good bs ≡ true → all ok (map read bs) ≡ true
+  all-good [] g = refl
+  all-good (b ∷ bs) g = both-of _ _ (reads-good b (left-of _ _ g)) (all-good bs (right-of (good b) _ g))
 
-answer-ids : (bs : List (List ℕ)) → map answeredId (map answerOf bs) ≡ map bodyId bs
-unfolding answerOf
-answer-ids [] = refl
-answer-ids (b ∷ bs) = rw (answer-ids bs)
+  all-ids : (bs : List (List ℕ)) → map id (map read bs) ≡ map bodyId bs
+  all-ids [] = refl
+  all-ids (b ∷ bs) = rw (reads-id b, all-ids bs)
 
-module _ (x : List ℕ) (v : kindOf x ≡ 2) where
-  some-answer : leb 1 (length (map answerOf (bodies 0x21 (walk (drop 74 x))))) ≡ true
-  some-answer = rw (length-map (bodies 0x21 (walk (drop 74 x))) answerOf) (items-some 0x21 (drop 74 x) (accept-items x v))
-
-  differ-21 : distinct (map bodyId (bodies 0x21 (walk (drop 74 x)))) ≡ true
+  listed-good : (s : List ℕ) → itemsOk k s ≡ true → all good (bodies k (walk s)) ≡ true
+      → (leb 1 (length (map read (bodies k (walk s)))) && (all ok (map read (bodies k (walk s))) && distinct (map id (map read (bodies k (walk s)))))) ≡ true
   unfolding ids
-  differ-21 = items-distinct 0x21 (drop 74 x) (accept-items x v)
+  listed-good s g q =
+      both-of _ _ (ap (leb 1) (length-map (bodies k (walk s)) read) ∙ items-some k s g) (both-of _ _ (all-good (bodies k (walk s)) q) (ap distinct (all-ids (bodies k (walk s))) ∙ items-distinct k s g))
 
+-- the filled sheet is a good proposal of just these contexts
+module _ (x : List ℕ) (v : kindOf x ≡ ASSOCIATE-RQ) where
+  pub request-contexts : contextsOk (proposed x) ≡ true
+  unfolding contextsOk proposed contextOf
+  request-contexts = listed-good 0x20 contextOf good20H contextOk contextId context-good (λ b. refl) (drop 74 x) (request-items x v) (items-20 (drop 74 x) (request-items x v))
+
+  pub request-sheet-good : proposalOk (sheetIn ASSOCIATE-RQ x) ≡ true
+  unfolding sheetIn
+  request-sheet-good = contexts-proposal (proposed x) request-contexts
+
+  pub request-sheet-back : contextsIn (sheetIn ASSOCIATE-RQ x) ≡ proposed x
+  unfolding sheetIn
+  request-sheet-back = contexts-back (proposed x) request-contexts
+
+-- or a good answer
+module _ (x : List ℕ) (v : kindOf x ≡ ASSOCIATE-AC) where
   pub accept-answers : allAnsweredOk (answered x) ≡ true
-  unfolding allAnsweredOk answered
-  accept-answers =
-      both-of _ _ some-answer
-      (both-of _ _ (answers-good (bodies 0x21 (walk (drop 74 x))) (items-21 (drop 74 x) (accept-items x v)))
-      (ap distinct (answer-ids (bodies 0x21 (walk (drop 74 x)))) ∙ differ-21))
+  unfolding allAnsweredOk answered answerOf
+  accept-answers = listed-good 0x21 answerOf good21H answeredOk answeredId answer-good (λ b. refl) (drop 74 x) (accept-items x v) (items-21 (drop 74 x) (accept-items x v))
 
-  pub accept-sheet-good : answersOk (sheetIn 2 x) ≡ true
+  pub accept-sheet-good : answersOk (sheetIn ASSOCIATE-AC x) ≡ true
   unfolding sheetIn
   accept-sheet-good = answered-answers (answered x) accept-answers
 
-  pub accept-sheet-back : answersIn (sheetIn 2 x) ≡ answered x
+  pub accept-sheet-back : answersIn (sheetIn ASSOCIATE-AC x) ≡ answered x
   unfolding sheetIn
   accept-sheet-back = answered-back (answered x) accept-answers
 
@@ -120,23 +101,9 @@ module _ (kind : ℕ) (x s : List ℕ) (r : Associate) (s′ : List ℕ) (w : Re
   unfolding filling front
   untouched n = w .sheet ∙ rw (ne-eqb (associateRefusal kind x (length s)) 0 (λ e. n (refusal-is ∙ e)))
 
-  -- an answered call: the records in front, and no byte beyond them changed
-  module _ (z : r .refusal ≡ 0) where
-    both : (r ≡ fieldsOf kind x) × (s′ ≡ sheetIn kind x ++ drop (length (sheetIn kind x)) s)
-    unfolding associateOf filling front
-    both =
-        let e : associateRefusal kind x (length s) ≡ 0 = sym refusal-is ∙ z in
-        (w .answer ∙ rw e, w .sheet ∙ rw e)
-
-    pub in-front : take (length (sheetIn kind x)) s′ ≡ sheetIn kind x
-    in-front = ap (take (length (sheetIn kind x))) (both .1) ∙ take-at (sheetIn kind x) (drop (length (sheetIn kind x)) s) (length (sheetIn kind x)) refl
-
-    pub beyond : drop (length (sheetIn kind x)) s′ ≡ drop (length (sheetIn kind x)) s
-    beyond = ap (drop (length (sheetIn kind x))) (both .1) ∙ drop-at (sheetIn kind x) (drop (length (sheetIn kind x)) s) (length (sheetIn kind x)) refl
-
 -- "room is 132 times the records"
-pub request-records : (x : List ℕ) → kindOf x ≡ 1 → length (sheetIn 1 x) ≡ 132 * (length (sheetIn 1 x) / 132)
-request-records x v = let e = proposal-whole (sheetIn 1 x) (request-sheet-good x v) in omega arith
+pub request-records : (x : List ℕ) → kindOf x ≡ ASSOCIATE-RQ → length (sheetIn ASSOCIATE-RQ x) ≡ RECORD * (length (sheetIn ASSOCIATE-RQ x) / RECORD)
+request-records x v = let e = proposal-whole (sheetIn ASSOCIATE-RQ x) (request-sheet-good x v) in omega arith
 
-pub accept-records : (x : List ℕ) → kindOf x ≡ 2 → length (sheetIn 2 x) ≡ 132 * (length (sheetIn 2 x) / 132)
-accept-records x v = let e = answers-whole (sheetIn 2 x) (accept-sheet-good x v) in omega arith
+pub accept-records : (x : List ℕ) → kindOf x ≡ ASSOCIATE-AC → length (sheetIn ASSOCIATE-AC x) ≡ RECORD * (length (sheetIn ASSOCIATE-AC x) / RECORD)
+accept-records x v = let e = answers-whole (sheetIn ASSOCIATE-AC x) (accept-sheet-good x v) in omega arith

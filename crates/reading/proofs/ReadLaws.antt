@@ -2,10 +2,10 @@
 -- Assumes nothing.
 use Prim.Native.Nat.{ℕ, _+_, _-_, _*_, _/_, _^_, _≤_, _<_}
 use native.Mathlib.Omega.{arith}
-use mathlib.Core.Bool.{Bool, true, false, cond}
-use mathlib.Core.List.{List, [], _∷_, _++_, map}
+use mathlib.Core.Bool.{Bool, true, false}
+use mathlib.Core.List.{List, [], _∷_, map}
 use mathlib.Core.Path.{_≡_, refl, sym, ap, _∙_}
-use lib.ListN.{length, take, drop, getD, length-append, length-drop}
+use lib.ListN.{length, take, drop, length-drop}
 use lib.Dec.{ltb, eqb}
 use borrow.Author.Needs.{needs}
 use mir.Val.{Fits}
@@ -15,80 +15,44 @@ use Rattle.laws.specs.Lists.{all}
 use Rattle.laws.proofs.Booleans.{left-of, right-of}
 use Rattle.laws.proofs.Places.{part-tail}
 use Rattle.octets.specs.Octets.{be16}
-use Rattle.octets.specs.Put.{put, front}
+use Rattle.octets.specs.Private.Put.{Put}
+use Rattle.octets.specs.Put.{front}
 use Rattle.octets.proofs.PutLaws.{put-front}
 use Rattle.names.specs.Name.{nameOk}
 use Rattle.names.proofs.NameLaws.{name-short}
 use Rattle.items.specs.Items.{walk, bodies, first, place}
 use Rattle.items.proofs.PlaceLaws.{stands}
-use Rattle.contents.specs.Contents.{good20H, good21H, itemsOk, maximumIn}
-use Rattle.contents.proofs.GoodLaws.{abstract-names, transfer-names, transfer-name, items-20, items-21}
+use Rattle.contents.specs.Contents.{good20H, good21H, maximumIn}
+use Rattle.contents.proofs.GoodLaws.{abstract-name, transfer-names, transfer-name, items-20, items-21}
 use Rattle.judging.specs.Pdu.{kindOf, maximumOf}
 use Rattle.judging.proofs.KindLaws.{request-long, accept-long, request-items, accept-items}
-use Rattle.sheets.specs.Contexts.{Context, Answered}
-use Rattle.sheets.specs.Sheet.{recordBytes, contextRecords, sheetOf, answerSheetOf}
+use Rattle.sheets.specs.Sheet.{contextRecords, sheetOf, answerSheetOf}
 use Rattle.sheets.specs.Record.{recordOf}
 use Rattle.sheets.proofs.RecordLaws.{record-whole}
 use Rattle.reading.specs.Associate.{contextOf, answerOf, proposed, answered, applicationOf, applicationAt, sheetIn, refused, fieldsOf, associateOf, filling, Read}
-use Rattle.reading.specs.Private.Records.{each, bodyRecords, allRecords, bodyRows, rowsOf, Written, contextType, fieldsWith}
+use Rattle.reading.specs.Private.Records.{each, bodyRecords, allRecords, contextType, fieldsWith}
 use Rattle.reading.specs.declared.associate.Associate.{Associate}
-use Rattle.reading.proofs.FillLaws.{record-132}
-
--- ---- 132 bytes for each record
-each-size : (id : ℕ) (a : List ℕ) (xs : List (List ℕ)) → length (each (recordOf id 0 a) xs) ≡ 132 * length xs
-unfolding each
-each-size id a [] = refl
-each-size id a (x ∷ xs) =
-    let l = record-132 id 0 a x in
-    let m = each-size id a xs in
-    length-append (recordOf id 0 a x) (each (recordOf id 0 a) xs) ∙ (let z : length (recordOf id 0 a x) + length (each (recordOf id 0 a) xs) ≡ 132 * length (x ∷ xs) = omega arith in z)
-
-body-size : (k : ℕ) (b : List ℕ) → length (bodyRecords k b) ≡ 132 * bodyRows k b
-unfolding bodyRecords bodyRows
-body-size k b = go (eqb k 0x20)
-  where
-    go : (d : Bool)
-        → length (cond d (each (recordOf (getD b 0 0) 0 (first (bodies 0x30 (walk (drop 4 b))))) (bodies 0x40 (walk (drop 4 b)))) (recordOf (getD b 0 0) (getD b 2 0) [] (first (bodies 0x40 (walk (drop 4 b))))))
-        ≡ 132 * cond d (length (bodies 0x40 (walk (drop 4 b)))) 1
-    go true = each-size (getD b 0 0) (first (bodies 0x30 (walk (drop 4 b)))) (bodies 0x40 (walk (drop 4 b)))
-    go false = record-132 (getD b 0 0) (getD b 2 0) [] (first (bodies 0x40 (walk (drop 4 b))))
-
-all-size : (k : ℕ) (bs : List (List ℕ)) → length (each (bodyRecords k) bs) ≡ 132 * rowsOf k bs
-unfolding each rowsOf
-all-size k [] = refl
-all-size k (b ∷ bs) =
-    let l = body-size k b in
-    let m = all-size k bs in
-    length-append (bodyRecords k b) (each (bodyRecords k) bs) ∙ (let z : length (bodyRecords k b) + length (each (bodyRecords k) bs) ≡ 132 * (bodyRows k b + rowsOf k bs) = omega arith in z)
 
 -- ---- a valid PDU has no name that is too long for its field
-short : (bs : List (List ℕ)) → all nameOk bs ≡ true → length (first bs) ≤ 64
-short [] g = omega arith
-short (b ∷ bs) g = name-short b (left-of _ _ g)
-
-whole-records : (id : ℕ) (a : List ℕ) (xs : List (List ℕ)) → length a ≤ 64 → all nameOk xs ≡ true → each (recordOf id 0 a) xs ≡ contextRecords id a xs
+whole-records : (id : ℕ) (a : List ℕ) (xs : List (List ℕ)) → nameOk a ≡ true → all nameOk xs ≡ true → each (recordOf id 0 a) xs ≡ contextRecords id a xs
 unfolding each contextRecords
 whole-records id a [] h g = refl
 whole-records id a (x ∷ xs) h g =
-    rw (record-whole id 0 a x h (name-short x (left-of _ _ g)), whole-records id a xs h (right-of (nameOk x) _ g))
+    rw (record-whole id 0 a x (name-short a h) (name-short x (left-of _ _ g)), whole-records id a xs h (right-of (nameOk x) _ g))
 
 proposed-sheet : (bs : List (List ℕ)) → all good20H bs ≡ true → each (bodyRecords 0x20) bs ≡ sheetOf (map contextOf bs)
 unfolding each bodyRecords sheetOf contextOf
 proposed-sheet [] g = refl
 proposed-sheet (b ∷ bs) g =
     let o : good20H b ≡ true = left-of _ _ g in
-    let h = short (bodies 0x30 (walk (drop 4 b))) (abstract-names b o) in
-    let e = whole-records (getD b 0 0) (first (bodies 0x30 (walk (drop 4 b)))) (bodies 0x40 (walk (drop 4 b))) h (transfer-names b o) in
-    rw (e, proposed-sheet bs (right-of (good20H b) _ g))
+    rw (whole-records (contextOf b .id) (contextOf b .abstr) (contextOf b .transfers) (abstract-name b o) (transfer-names b o), proposed-sheet bs (right-of (good20H b) _ g))
 
 answered-sheet : (bs : List (List ℕ)) → all good21H bs ≡ true → each (bodyRecords 0x21) bs ≡ answerSheetOf (map answerOf bs)
 unfolding each bodyRecords answerSheetOf answerOf
 answered-sheet [] g = refl
 answered-sheet (b ∷ bs) g =
-    let o : good21H b ≡ true = left-of _ _ g in
     let z : length {A = ℕ} [] ≤ 64 = omega arith in
-    let e = record-whole (getD b 0 0) (getD b 2 0) [] (first (bodies 0x40 (walk (drop 4 b)))) z (name-short (first (bodies 0x40 (walk (drop 4 b)))) (transfer-name b o)) in
-    rw (e, answered-sheet bs (right-of (good21H b) _ g))
+    rw (record-whole (answerOf b .id) (answerOf b .result) [] (answerOf b .transfer) z (name-short (answerOf b .transfer) (transfer-name b (left-of _ _ g))), answered-sheet bs (right-of (good21H b) _ g))
 
 -- what the code puts into the sheet is the sheet of the contexts
 module _ (x : List ℕ) where
@@ -163,12 +127,12 @@ module _ (x o : List ℕ) (kind b : ℕ) (a : 1 ≤ kind) (c : kind ≤ 2) (e : 
     pub read-long : 74 ≤ length x
     read-long = read-long-of x kind a c is
 
-    module _ (k n : ℕ) (p : k ≡ contextType kind) (g : n ≡ rowsOf k (bodies k (walk (take (length x - 74) (drop 74 x))))) where
+    module _ (k n : ℕ) (p : k ≡ contextType kind) (g : 132 * n ≡ length (allRecords k (take (length x - 74) (drop 74 x)))) where
       sheet-is : allRecords k (take (length x - 74) (drop 74 x)) ≡ sheetIn kind x
       sheet-is = rw (part-tail 74 x, p) (sheet-of x kind a c is)
 
       size-is : length (sheetIn kind x) ≡ 132 * n
-      size-is = ap length (sym sheet-is) ∙ (all-size k (bodies k (walk (take (length x - 74) (drop 74 x)))) ∙ rw (← g))
+      size-is = ap length (sym sheet-is) ∙ sym g
 
       pub read-narrow : (r : Associate) → length o / 132 < n → r ≡ refused 2 → Read kind x o r o
       unfolding associateOf filling front
@@ -181,7 +145,7 @@ module _ (x o : List ℕ) (kind b : ℕ) (a : 1 ≤ kind) (c : kind ≤ 2) (e : 
         pub read-room : length (allRecords k (take (length x - 74) (drop 74 x))) ≤ length o
         read-room = let s = size-is in let z = ap length sheet-is in omega arith
 
-        pub read-done : (r : Associate) (m : ℕ) (o′ : List ℕ) → Written o 0 (allRecords k (take (length x - 74) (drop 74 x))) m o′ → r ≡ fieldsWith x n → Read kind x o r o′
+        pub read-done : (r : Associate) (m : ℕ) (o′ : List ℕ) → Put o 0 (allRecords k (take (length x - 74) (drop 74 x))) m o′ → r ≡ fieldsWith x n → Read kind x o r o′
         unfolding associateOf filling
         read-done r m o′ w q =
             let s = size-is in

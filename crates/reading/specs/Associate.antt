@@ -6,6 +6,9 @@ use mathlib.Core.List.{List, [], _∷_, map}
 use lib.ListN.{length, drop, getD}
 use lib.Dec.{ltb, eqb}
 use Rattle.laws.specs.Refusals.{firstDue}
+use Rattle.numbers.specs.Refusals.{NOT-REFUSED, SHORT-OUTPUT, NO-SUCH-PDU}
+use Rattle.numbers.specs.Kinds.{ASSOCIATE-RQ}
+use Rattle.numbers.specs.Lengths.{RECORD}
 use Rattle.octets.specs.Put.{front}
 use Rattle.items.specs.Items.{walk, bodies, first, place}
 use Rattle.judging.specs.Pdu.{versionOf, topItems, kindOf, maximumOf}
@@ -39,7 +42,7 @@ applicationAt pdu = 74 + place 0x10 (walk (topItems pdu))
 -- ---- the answer, for kind 1, an RQ, or 2, an AC
 -- the records: one per transfer syntax in an RQ, per context in an AC
 unfoldable pub sheetIn : ℕ → List ℕ → List ℕ
-sheetIn kind pdu = cond (eqb kind 1) (sheetOf (proposed pdu)) (answerSheetOf (answered pdu))
+sheetIn kind pdu = cond (eqb kind ASSOCIATE-RQ) (sheetOf (proposed pdu)) (answerSheetOf (answered pdu))
 
 abbrev pub refused : ℕ → Associate
 refused n = record { refusal = n; version = 0; «application_at» = 0; «application_len» = 0; maximum = 0; records = 0 }
@@ -47,30 +50,30 @@ refused n = record { refusal = n; version = 0; «application_at» = 0; «applica
 abbrev pub fieldsOf : ℕ → List ℕ → Associate
 fieldsOf kind pdu =
     record {
-      refusal = 0;
+      refusal = NOT-REFUSED;
       version = versionOf pdu;
       «application_at» = applicationAt pdu;
       «application_len» = length (applicationOf pdu);
       maximum = maximumOf pdu;
-      records = length (sheetIn kind pdu) / 132;
+      records = length (sheetIn kind pdu) / RECORD;
     }
 
--- 7, no whole valid PDU of the kind; then 2, too little room in the sheet
+-- no whole valid PDU of the kind; then too little room in the sheet
 abbrev pub associateTests : ℕ → List ℕ → ℕ → List (Bool × ℕ)
 associateTests kind pdu room =
-    (not (eqb (kindOf pdu) kind), 7)
-    ∷ (ltb room (length (sheetIn kind pdu)), 2)
+    (not (eqb (kindOf pdu) kind), NO-SUCH-PDU)
+    ∷ (ltb room (length (sheetIn kind pdu)), SHORT-OUTPUT)
     ∷ []
 
 abbrev pub associateRefusal : ℕ → List ℕ → ℕ → ℕ
 associateRefusal kind pdu room = firstDue (associateTests kind pdu room)
 
 unfoldable pub associateOf : ℕ → List ℕ → ℕ → Associate
-associateOf kind pdu room = cond (eqb (associateRefusal kind pdu room) 0) (fieldsOf kind pdu) (refused (associateRefusal kind pdu room))
+associateOf kind pdu room = cond (eqb (associateRefusal kind pdu room) NOT-REFUSED) (fieldsOf kind pdu) (refused (associateRefusal kind pdu room))
 
 -- what the sheet then starts with
 unfoldable pub filling : ℕ → List ℕ → ℕ → List ℕ
-filling kind pdu room = cond (eqb (associateRefusal kind pdu room) 0) (sheetIn kind pdu) []
+filling kind pdu room = cond (eqb (associateRefusal kind pdu room) NOT-REFUSED) (sheetIn kind pdu) []
 
 -- a PDU of a kind was read into the sheet s, which is now s′, and r is the answer
 pub record Read (kind : ℕ) (pdu s : List ℕ) (r : Associate) (s′ : List ℕ) : Type 0 where

@@ -5,13 +5,16 @@ use mathlib.Core.List.{List, [], _∷_}
 use lib.ListN.{length, take, drop, getD}
 use lib.Dec.{ltb, eqb}
 use Rattle.laws.specs.Refusals.{firstDue}
+use Rattle.numbers.specs.Refusals.{NOT-REFUSED, BAD-CONTENTS, NO-SUCH-PDU}
+use Rattle.numbers.specs.Kinds.{DATA-TF}
+use Rattle.numbers.specs.Lengths.{HEADER}
 use Rattle.pdvs.specs.Data.{Pdv, pdvs, size}
 use Rattle.judging.specs.Pdu.{kindOf}
 use Rattle.reading.specs.declared.data.DataRead.{DataRead}
 
 -- the PDVs of a P-DATA-TF
 unfoldable pub pdvsOf : List ℕ → List Pdv
-pdvsOf pdu = pdvs (drop 6 pdu)
+pdvsOf pdu = pdvs (drop HEADER pdu)
 
 -- PDV n of a list
 unfoldable pub pdv : List Pdv → ℕ → Pdv
@@ -19,13 +22,13 @@ pdv ps n = getD ps n (record { id = 0; control = 0; fragment = [] })
 
 -- where its fragment starts in the PDU: behind the header, the PDVs before it, and its own length, ID and control byte
 unfoldable pub startOf : List Pdv → ℕ → ℕ
-startOf ps n = 6 + size (take n ps) + 6
+startOf ps n = HEADER + size (take n ps) + 6
 
--- 7, no whole valid P-DATA-TF; then 4, a number past the last
+-- no whole valid P-DATA-TF; then a number past the last
 abbrev pub dataTests : List ℕ → ℕ → List (Bool × ℕ)
 dataTests pdu n =
-    (not (eqb (kindOf pdu) 4), 7)
-    ∷ (not (ltb n (length (pdvsOf pdu))), 4)
+    (not (eqb (kindOf pdu) DATA-TF), NO-SUCH-PDU)
+    ∷ (not (ltb n (length (pdvsOf pdu))), BAD-CONTENTS)
     ∷ []
 
 abbrev pub dataRefusal : List ℕ → ℕ → ℕ
@@ -33,9 +36,9 @@ dataRefusal pdu n = firstDue (dataTests pdu n)
 
 unfoldable pub dataOf : List ℕ → ℕ → DataRead
 dataOf pdu n =
-    cond (eqb (dataRefusal pdu n) 0)
+    cond (eqb (dataRefusal pdu n) NOT-REFUSED)
     (record {
-      refusal = 0;
+      refusal = NOT-REFUSED;
       id = pdv (pdvsOf pdu) n .id;
       control = pdv (pdvsOf pdu) n .control;
       start = startOf (pdvsOf pdu) n;

@@ -5,7 +5,7 @@ ghost use Rattle.octets.specs.Slice.{PartOf};
 ghost use Rattle.pdvs.specs.Data.{pdvs, size};
 ghost use Rattle.reading.specs.Data.{dataOf, fragmentOf};
 
-// refusal: 0, or 7 or 4 with all else 0. The fragment starts at start, counted from the PDU's first byte, and has len bytes.
+// refusal: NOT_REFUSED, or NO_SUCH_PDU or BAD_CONTENTS with all else 0. The fragment starts at start, counted from the PDU's first byte, and has len bytes.
 pub struct DataRead {
     pub refusal: u8,
     pub id: u8,
@@ -35,21 +35,21 @@ fn pdv_place(number: usize, s: &[u8]) -> usize
 pub fn read_data(pdu: &[u8], number: usize) -> DataRead
     ensures { λ r. ⌜ r ≡ dataOf (now (pdu .entry)) number ⌝ }
 {
-    if judging::kind_of(pdu) != 4 {
+    if judging::kind_of(pdu) != numbers::DATA_TF {
         return DataRead {
-            refusal: 7,
+            refusal: numbers::NO_SUCH_PDU,
             id: 0,
             control: 0,
             start: 0,
             len: 0,
         };
     }
-    let s = &pdu[6..];
+    let s = &pdu[numbers::HEADER..];
     let at = pdv_place(number, s);
     let e = pdvs::pdv_end(s, at);
     if e == 0 {
         return DataRead {
-            refusal: 4,
+            refusal: numbers::BAD_CONTENTS,
             id: 0,
             control: 0,
             start: 0,
@@ -57,10 +57,10 @@ pub fn read_data(pdu: &[u8], number: usize) -> DataRead
         };
     }
     DataRead {
-        refusal: 0,
+        refusal: numbers::NOT_REFUSED,
         id: s[at + 4],
         control: s[at + 5],
-        start: 6 + at + 6,
+        start: numbers::HEADER + at + 6,
         len: e - (at + 6),
     }
 }

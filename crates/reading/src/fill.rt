@@ -1,11 +1,12 @@
 // The records of the contexts of an RQ or an AC, put into a lent sheet in PDU order: k is the type of a context, 20H or 21H.
 ghost use mathlib.Core.Path.{_≡_};
-ghost use Prim.Native.Nat.{_+_, _≤_};
+ghost use Prim.Native.Nat.{_+_, _*_, _≤_};
 ghost use lib.ListN.{length, drop};
-ghost use Rattle.octets.specs.Put.{Placed};
+ghost use Rattle.numbers.specs.Lengths.{RECORD};
+ghost use Rattle.octets.specs.Private.Put.{Put};
 ghost use Rattle.items.specs.Items.{walk, bodies};
 ghost use Rattle.sheets.specs.Record.{recordOf};
-ghost use Rattle.reading.specs.Private.Records.{each, bodyRecords, allRecords, bodyRows, rowsOf, Written};
+ghost use Rattle.reading.specs.Private.Records.{each, bodyRecords, allRecords};
 
 // What follows the four bytes of a context.
 fn behind_four(b: &[u8]) -> &[u8]
@@ -19,7 +20,7 @@ fn behind_four(b: &[u8]) -> &[u8]
 
 // How many records a context gives: one per transfer syntax in an RQ, one in an AC.
 fn rows_in(k: u8, b: &[u8]) -> usize
-    ensures { λ r. ⌜ r ≡ bodyRows k (now (b .entry)) ⌝ }
+    ensures { λ r. ⌜ RECORD * r ≡ length (bodyRecords k (now (b .entry))) ⌝ }
 {
     if k == 0x20 {
         return items::count_of(0x40, behind_four(b));
@@ -28,7 +29,7 @@ fn rows_in(k: u8, b: &[u8]) -> usize
 }
 
 pub(crate) fn rows(k: u8, s: &[u8]) -> usize
-    ensures { λ r. ⌜ r ≡ rowsOf k (bodies k (walk (now (s .entry)))) ⌝ }
+    ensures { λ r. ⌜ RECORD * r ≡ length (allRecords k (now (s .entry))) ⌝ }
 {
     let mut n = 0;
     let mut at = 0;
@@ -47,8 +48,8 @@ pub(crate) fn rows(k: u8, s: &[u8]) -> usize
 }
 
 fn put_record(sheet: &mut [u8], n: usize, id: u8, result: u8, a: &[u8], x: &[u8]) -> usize
-    requires { ⌜ n + 132 ≤ length (now sheet) ⌝ }
-    ensures { λ r. ⌜ Written (now (sheet .entry)) n (recordOf id result (now (a .entry)) (now (x .entry))) r (now (sheet .exit)) ⌝ }
+    requires { ⌜ n + RECORD ≤ length (now sheet) ⌝ }
+    ensures { λ r. ⌜ Put (now (sheet .entry)) n (recordOf id result (now (a .entry)) (now (x .entry))) r (now (sheet .exit)) ⌝ }
 {
     let r = sheets::record_of(id, result, a, x);
     octets::put(sheet, n, &r)
@@ -57,7 +58,7 @@ fn put_record(sheet: &mut [u8], n: usize, id: u8, result: u8, a: &[u8], x: &[u8]
 // One record for each transfer syntax.
 fn put_transfers(sheet: &mut [u8], from: usize, id: u8, a: &[u8], s: &[u8]) -> usize
     requires { ⌜ from + length (each (recordOf id 0 (now a)) (bodies 0x40 (walk (now s)))) ≤ length (now sheet) ⌝ }
-    ensures { λ r. ⌜ Written (now (sheet .entry)) from (each (recordOf id 0 (now (a .entry))) (bodies 0x40 (walk (now (s .entry))))) r (now (sheet .exit)) ⌝ }
+    ensures { λ r. ⌜ Put (now (sheet .entry)) from (each (recordOf id 0 (now (a .entry))) (bodies 0x40 (walk (now (s .entry))))) r (now (sheet .exit)) ⌝ }
 {
     let mut n = from;
     let mut at = 0;
@@ -75,42 +76,28 @@ fn put_transfers(sheet: &mut [u8], from: usize, id: u8, a: &[u8], s: &[u8]) -> u
     n
 }
 
-fn put_proposed(sheet: &mut [u8], n: usize, b: &[u8]) -> usize
-    requires { ⌜ n + length (bodyRecords 0x20 (now b)) ≤ length (now sheet) ⌝ }
-    ensures { λ r. ⌜ Written (now (sheet .entry)) n (bodyRecords 0x20 (now (b .entry))) r (now (sheet .exit)) ⌝ }
+fn put_context(k: u8, sheet: &mut [u8], n: usize, b: &[u8]) -> usize
+    requires { ⌜ n + length (bodyRecords k (now b)) ≤ length (now sheet) ⌝ }
+    ensures { λ r. ⌜ Put (now (sheet .entry)) n (bodyRecords k (now (b .entry))) r (now (sheet .exit)) ⌝ }
 {
     let s = behind_four(b);
-    put_transfers(sheet, n, octets::byte_at(b, 0), items::first_of(0x30, s), s)
-}
-
-fn put_answered(sheet: &mut [u8], n: usize, b: &[u8]) -> usize
-    requires { ⌜ n + 132 ≤ length (now sheet) ⌝ }
-    ensures { λ r. ⌜ Written (now (sheet .entry)) n (bodyRecords 0x21 (now (b .entry))) r (now (sheet .exit)) ⌝ }
-{
-    let s = behind_four(b);
+    let id = octets::byte_at(b, 0);
+    if k == 0x20 {
+        return put_transfers(sheet, n, id, items::first_of(0x30, s), s);
+    }
     put_record(
         sheet,
         n,
-        octets::byte_at(b, 0),
+        id,
         octets::byte_at(b, 2),
         &b[0..0],
         items::first_of(0x40, s),
     )
 }
 
-fn put_context(k: u8, sheet: &mut [u8], n: usize, b: &[u8]) -> usize
-    requires { ⌜ n + length (bodyRecords k (now b)) ≤ length (now sheet) ⌝ }
-    ensures { λ r. ⌜ Written (now (sheet .entry)) n (bodyRecords k (now (b .entry))) r (now (sheet .exit)) ⌝ }
-{
-    if k == 0x20 {
-        return put_proposed(sheet, n, b);
-    }
-    put_answered(sheet, n, b)
-}
-
 pub(crate) fn put_contexts(k: u8, sheet: &mut [u8], s: &[u8]) -> usize
     requires { ⌜ length (allRecords k (now s)) ≤ length (now sheet) ⌝ }
-    ensures { λ r. ⌜ Written (now (sheet .entry)) 0 (allRecords k (now (s .entry))) r (now (sheet .exit)) ⌝ }
+    ensures { λ r. ⌜ Put (now (sheet .entry)) 0 (allRecords k (now (s .entry))) r (now (sheet .exit)) ⌝ }
 {
     let mut n = 0;
     let mut at = 0;

@@ -9,12 +9,13 @@ use lib.ListN.{length, getD}
 use borrow.Author.Needs.{needs}
 use borrow.Author.Tests.{le-leb, lt-leb, eq-eqb, ne-eqb, not-true, not-false}
 use Rattle.octets.specs.Octets.{four}
+use Rattle.octets.specs.Put.{Placed}
+use Rattle.octets.specs.Private.Put.{Put}
+use Rattle.octets.proofs.PutLaws.{placed-next}
 use Rattle.pdvs.specs.Data.{pdvsOk}
 use Rattle.writing.specs.Fields.{itemsOf, itemsGood}
 use Rattle.writing.specs.Wire.{pduBytes}
 use Rattle.writing.specs.Form.{Wrote, mostOf, dataForm}
-use Rattle.writing.specs.Private.Put.{Put}
-use Rattle.writing.proofs.PutLaws.{next-put}
 use Rattle.writing.proofs.FormLaws.{wrote-bad, wrote-long, wrote-short, wrote-fine}
 
 -- ---- `header`
@@ -57,11 +58,11 @@ module _ (peer : ℕ) (s o : List ℕ) (b : Bool) (e : b ≡ pdvsOk 3 s) where
       unfolding dataForm itemsGood pduBytes
       data-short l = wrote-short (dataForm peer (itemsOf s)) o data-good (omega arith) (omega arith)
 
-      pub data-fine : (x o₁ o₂ : List ℕ) (i r : ℕ) → length s + 6 ≤ length o → x ≡ 0x04 ∷ 0 ∷ four (length s) → Put o 0 x i o₁ → Put o₁ i s r o₂ → Wrote (dataForm peer (itemsOf s)) o (record { refusal = 0; count = r }) o₂
+      pub data-fine : (x o₁ o₂ : List ℕ) (i r : ℕ) → length s + 6 ≤ length o → x ≡ 0x04 ∷ 0 ∷ four (length s) → Placed o 0 x i o₁ → Placed o₁ i s r o₂ → Wrote (dataForm peer (itemsOf s)) o (record { refusal = 0; count = r }) o₂
       unfolding dataForm itemsGood pduBytes
       data-fine x o₁ o₂ i r l k p w =
           let n : length x ≡ 6 = ap length k in
-          let all : Put o 0 (x ++ s) r o₂ = next-put o x s o₁ 0 i p (omega arith) o₂ r w in
+          let all : Put o 0 (x ++ s) r o₂ = placed-next o 0 x s o₁ i (omega arith) p w in
           wrote-fine (dataForm peer (itemsOf s)) o data-good (omega arith) o₂ r (omega arith) (rw k at all)
 
 pub ruleset data-laws = (needs, data-refused, data-over, data-short, data-fine)

@@ -14,10 +14,10 @@ use Rattle.laws.specs.Refusals.{firstDue}
 use Rattle.laws.proofs.Refusals.{not-due}
 use Rattle.laws.proofs.Agree.{agree}
 use Rattle.octets.specs.Put.{front}
+use Rattle.octets.specs.Private.Put.{Put}
 use Rattle.octets.proofs.PutLaws.{put-front, front-start, front-behind}
 use Rattle.writing.specs.Fields.{RqFields, AcFields, Reject, Items}
 use Rattle.writing.specs.Form.{Form, formTests, formRefusal, sentBytes, sentOf, Wrote, rqForm, acForm, rejectForm, mostOf, dataForm}
-use Rattle.writing.specs.Private.Put.{Put}
 use Rattle.writing.specs.declared.Sent.{Sent}
 
 -- ---- when each refusal is given, and when none is

@@ -11,12 +11,12 @@ use lib.Dec.{leb, eqb}
 use borrow.Author.Needs.{needs}
 use borrow.Author.Tests.{eq-eqb, ne-eqb, eqb-true, eqb-false, leb-true, leb-false, not-true, not-false}
 use Rattle.octets.specs.Put.{front, Placed}
-use Rattle.octets.proofs.PutLaws.{put-none, put-out, put-behind, put-front, placed-fits, behind-fits}
+use Rattle.octets.proofs.PutLaws.{put-none, put-out, put-behind, put-front, placed-put, placed-fits, behind-fits}
 use Rattle.reasons.specs.Values.{rejectOk, abortOk}
 use Rattle.writing.specs.Fields.{rejectOf, abortOf, rejectGood, abortGood}
 use Rattle.writing.specs.Ten.{tens, tenOf, rejectBytes, abortBytes}
 use Rattle.writing.specs.Form.{formRefusal, Wrote, rejectForm, releaseRqForm, releaseRpForm, abortForm}
-use Rattle.writing.specs.Private.Put.{Put, tenForm}
+use Rattle.writing.specs.Private.TenForm.{tenForm}
 use Rattle.writing.specs.declared.Sent.{Sent}
 use Rattle.writing.proofs.FormLaws.{refusal-0, refusal-2, wrote-bad, wrote-short, wrote-fine}
 
@@ -145,9 +145,9 @@ module _ (o t : List ℕ) (e : length t ≡ 10) where
   unfolding tenForm
   send-short h = wrote-short (tenForm t) o refl (omega arith) (omega arith)
 
-  pub send-fine : (o′ : List ℕ) (r : ℕ) → 10 ≤ length o → Put o 0 t r o′ → Wrote (tenForm t) o (record { refusal = 0; count = r }) o′
+  pub send-fine : (o′ : List ℕ) (r : ℕ) → 10 ≤ length o → Placed o 0 t r o′ → Wrote (tenForm t) o (record { refusal = 0; count = r }) o′
   unfolding tenForm
-  send-fine o′ r h p = wrote-fine (tenForm t) o refl (omega arith) o′ r (omega arith) p
+  send-fine o′ r h p = wrote-fine (tenForm t) o refl (omega arith) o′ r (omega arith) (placed-put o 0 t p (omega arith))
 
 pub ruleset send-laws = (needs, send-short, send-fine)
 

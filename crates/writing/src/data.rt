@@ -6,7 +6,6 @@ ghost use Rattle.octets.specs.Octets.{four};
 ghost use Rattle.writing.specs.Fields.{itemsOf};
 ghost use Rattle.writing.specs.Form.{Wrote, mostOf, dataForm};
 use crate::Sent;
-use crate::pieces::put;
 
 // A PDU's first six bytes, with its PDU-length.
 fn header(kind: u8, n: u32) -> [u8; 6]
@@ -53,8 +52,8 @@ pub fn write_data(items: &[u8], peer: u32, out: &mut [u8]) -> Sent
         };
     }
     let head = header(0x04, n as u32);
-    let e = put(out, 0, &head);
-    let k = put(out, e, items);
+    let e = octets::put(out, 0, &head);
+    let k = octets::put(out, e, items);
     Sent {
         refusal: 0,
         count: k,

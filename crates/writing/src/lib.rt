@@ -1,6 +1,5 @@
-// Writes the ten-byte PDUs and a P-DATA-TF, each in its one form, into a lent output. (`associate` writes an RQ and an AC.)
+// Writes the ten-byte PDUs and a P-DATA-TF, each in its one form, into a lent output. (`writing_associate` writes an RQ and an AC.)
 mod data;
-mod pieces;
 mod ten;
 
 pub use data::write_data;

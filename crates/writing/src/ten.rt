@@ -6,9 +6,8 @@ ghost use Rattle.octets.specs.Put.{Placed};
 ghost use Rattle.writing.specs.Fields.{rejectOf, abortOf, abortGood};
 ghost use Rattle.writing.specs.Ten.{tenOf};
 ghost use Rattle.writing.specs.Form.{Wrote, rejectForm, releaseRqForm, releaseRpForm, abortForm};
-ghost use Rattle.writing.specs.Private.Put.{tenForm};
+ghost use Rattle.writing.specs.Private.TenForm.{tenForm};
 use crate::Sent;
-use crate::pieces::put;
 
 fn ten_of(which: u8) -> [u8; 10]
     requires { ⌜ (1 ≤ which) × (which ≤ 7) ⌝ }
@@ -70,7 +69,7 @@ fn send(pdu: &[u8], out: &mut [u8]) -> Sent
             count: 0,
         };
     }
-    let k = put(out, 0, pdu);
+    let k = octets::put(out, 0, pdu);
     Sent {
         refusal: 0,
         count: k,

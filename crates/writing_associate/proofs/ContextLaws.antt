@@ -9,8 +9,9 @@ use lib.ListN.{length, drop, getD, length-append}
 use lib.Dec.{leb}
 use borrow.Author.Needs.{needs}
 use borrow.Author.Tests.{leb-true, leb-false, le-leb, lt-leb}
-use Rattle.octets.specs.Put.{put}
-use Rattle.octets.proofs.PutLaws.{put-put, put-length, put-none}
+use Rattle.octets.specs.Put.{put, Placed}
+use Rattle.octets.specs.Private.Put.{Put}
+use Rattle.octets.proofs.PutLaws.{put-put, put-length, put-none, placed-put, put-nothing, next-room, next-put}
 use Rattle.items.specs.Wire.{itemBytes, itemsBytes}
 use Rattle.items.proofs.WireLaws.{item-length}
 use Rattle.sheets.specs.Contexts.{Context}
@@ -19,9 +20,7 @@ use Rattle.sheets.specs.Record.{recordAt, abstractAt, transferAt, goesOnAt}
 use Rattle.sheets.proofs.RecordLaws.{abstract-here, transfer-here, abstract-short, transfer-short}
 use Rattle.sheets.proofs.RunLaws.{contexts-here, contexts-none, answers-here, answers-none, id-here, result-here, on-here, no-run}
 use Rattle.writing.specs.Wire.{contextBody, answerBody}
-use Rattle.writing.specs.Private.Put.{Put}
 use Rattle.writing_associate.specs.Private.Frames.{runBytes, openBytes, contextBytes, proposalHead, answerHead, leadBytes, stepBytes, Ready, capped}
-use Rattle.writing.proofs.PutLaws.{put-nothing, next-room, next-put}
 
 -- ---- one record in front of contexts
 
@@ -167,23 +166,29 @@ module _ (s : List ℕ) (at n all : ℕ) (b : Bool) (v : all ≡ n + runAfter s 
 pub ruleset run-laws = (needs, run-start, run-more, run-next, run-done)
 
 -- ---- `put_proposal_head`, `put_answer_head`
-module _ (o a o₁ : List ℕ) (at id m n : ℕ) (h : at + 12 + length a ≤ length o) (p : Put o at (0x20 ∷ 0 ∷ (8 + length a + m) / 256 ∷ (8 + length a + m) % 256 ∷ id ∷ 0 ∷ 0 ∷ 0 ∷ []) n o₁) where
+abbrev proposal-front : ℕ → ℕ → List ℕ
+proposal-front n id = 0x20 ∷ 0 ∷ n / 256 ∷ n % 256 ∷ id ∷ 0 ∷ 0 ∷ 0 ∷ []
+
+module _ (o a o₁ : List ℕ) (at id m n : ℕ) (h : at + 12 + length a ≤ length o) (p : Placed o at (0x20 ∷ 0 ∷ (8 + length a + m) / 256 ∷ (8 + length a + m) % 256 ∷ id ∷ 0 ∷ 0 ∷ 0 ∷ []) n o₁) where
   head-all : at + (8 + length (itemBytes 0x30 a)) ≤ length o
   head-all = let l = item-length 0x30 a in omega arith
+
+  front-put : Put o at (proposal-front (8 + length a + m) id) n o₁
+  front-put = placed-put o at (proposal-front (8 + length a + m) id) p (omega arith)
 
   pub head-room : n + 4 + length a ≤ length o₁
   head-room =
       let l = item-length 0x30 a in
-      let r = next-room o (0x20 ∷ 0 ∷ (8 + length a + m) / 256 ∷ (8 + length a + m) % 256 ∷ id ∷ 0 ∷ 0 ∷ 0 ∷ []) (itemBytes 0x30 a) o₁ at n p head-all in
+      let r = next-room o at (proposal-front (8 + length a + m) id) (itemBytes 0x30 a) o₁ n head-all front-put in
       omega arith
 
   pub head-put : (o₂ : List ℕ) (r : ℕ) → Put o₁ n (itemBytes 0x30 a) r o₂ → Put o at (proposalHead id a m) r o₂
   unfolding proposalHead
-  head-put o₂ r q = next-put o (0x20 ∷ 0 ∷ (8 + length a + m) / 256 ∷ (8 + length a + m) % 256 ∷ id ∷ 0 ∷ 0 ∷ 0 ∷ []) (itemBytes 0x30 a) o₁ at n p head-all o₂ r q
+  head-put o₂ r q = next-put o at (proposal-front (8 + length a + m) id) (itemBytes 0x30 a) o₁ n head-all front-put q
 
-pub answer-put : (o o₁ : List ℕ) (at id result m r : ℕ) → Put o at (0x21 ∷ 0 ∷ (8 + m) / 256 ∷ (8 + m) % 256 ∷ id ∷ 0 ∷ result ∷ 0 ∷ []) r o₁ → Put o at (answerHead id result m) r o₁
+pub answer-put : (o o₁ : List ℕ) (at id result m r : ℕ) → at + 8 ≤ length o → Placed o at (0x21 ∷ 0 ∷ (8 + m) / 256 ∷ (8 + m) % 256 ∷ id ∷ 0 ∷ result ∷ 0 ∷ []) r o₁ → Put o at (answerHead id result m) r o₁
 unfolding answerHead
-answer-put o o₁ at id result m r p = p
+answer-put o o₁ at id result m r h p = placed-put o at (0x21 ∷ 0 ∷ (8 + m) / 256 ∷ (8 + m) % 256 ∷ id ∷ 0 ∷ result ∷ 0 ∷ []) p (omega arith)
 
 pub ruleset head-laws = (needs, head-room, head-put, answer-put)
 
@@ -244,13 +249,13 @@ module _ (k g : Bool) (s o : List ℕ) (at n : ℕ) (y : Ready k g s at o n) (o�
   pub step-room : e + 4 + length x ≤ length o₁
   step-room =
       let l = item-length 0x40 (transferAt s at) in
-      let r = next-room o (leadBytes k g s at) (itemBytes 0x40 (transferAt s at)) o₁ n e p step-all in
+      let r = next-room o n (leadBytes k g s at) (itemBytes 0x40 (transferAt s at)) o₁ e step-all p in
       let m = ap length f in
       omega arith
 
   pub step-put : (o₂ : List ℕ) (r : ℕ) → Put o₁ e (itemBytes 0x40 x) r o₂ → Put o n (stepBytes k g s at) r o₂
   unfolding stepBytes
-  step-put o₂ r q = next-put o (leadBytes k g s at) (itemBytes 0x40 (transferAt s at)) o₁ n e p step-all o₂ r (rw (← f) q)
+  step-put o₂ r q = next-put o n (leadBytes k g s at) (itemBytes 0x40 (transferAt s at)) o₁ e step-all p (rw (← f) q)
 
   pub step-small : length x < 65536
   step-small = let a = transfer-64 s x at f in omega arith

@@ -11,6 +11,9 @@ use borrow.Author.Needs.{needs}
 use borrow.Author.Tests.{leb-false}
 use Rattle.laws.specs.Lists.{joined}
 use Rattle.octets.specs.Octets.{four}
+use Rattle.octets.specs.Put.{Placed}
+use Rattle.octets.specs.Private.Put.{Put}
+use Rattle.octets.proofs.PutLaws.{next-room, next-put, placed-next}
 use Rattle.names.proofs.NameLaws.{name-short}
 use Rattle.items.specs.Wire.{itemBytes, itemsBytes}
 use Rattle.items.proofs.WireLaws.{item-length}
@@ -18,9 +21,7 @@ use Rattle.sheets.specs.Contexts.{Context}
 use Rattle.sheets.specs.Sheet.{contextsIn}
 use Rattle.writing.specs.Wire.{pduBytes, associateItems, associateBytes, ourUser, contextBody}
 use Rattle.writing.specs.Form.{Wrote}
-use Rattle.writing.specs.Private.Put.{Put}
 use Rattle.writing_associate.specs.Private.Frames.{openBytes, contextBytes, capped, base, frameOf, frameForm, itemPart, fixedPart, Fit, Measured}
-use Rattle.writing.proofs.PutLaws.{next-room, next-put}
 use Rattle.writing.proofs.FormLaws.{wrote-long, wrote-short, wrote-fine}
 
 -- ---- `user`, `base`
@@ -42,10 +43,10 @@ abbrev fixed-head : ℕ → List ℕ → List ℕ
 fixed-head kind l = kind ∷ 0 ∷ getD l 0 0 ∷ getD l 1 0 ∷ getD l 2 0 ∷ getD l 3 0 ∷ 0 ∷ 1 ∷ 0 ∷ 0 ∷ []
 
 pub fixed-put : (o l o₁ o₂ middle : List ℕ) (kind n a r : ℕ) → 74 ≤ length o → length middle ≡ 64 → l ≡ four n
-    → Put o 0 (kind ∷ 0 ∷ getD l 0 0 ∷ getD l 1 0 ∷ getD l 2 0 ∷ getD l 3 0 ∷ 0 ∷ 1 ∷ 0 ∷ 0 ∷ []) a o₁ → Put o₁ a middle r o₂ → Put o 0 (fixedPart kind n middle) r o₂
+    → Placed o 0 (kind ∷ 0 ∷ getD l 0 0 ∷ getD l 1 0 ∷ getD l 2 0 ∷ getD l 3 0 ∷ 0 ∷ 1 ∷ 0 ∷ 0 ∷ []) a o₁ → Placed o₁ a middle r o₂ → Put o 0 (fixedPart kind n middle) r o₂
 unfolding fixedPart
 fixed-put o l o₁ o₂ middle kind n a r h m e p q =
-    let all : Put o 0 (fixed-head kind l ++ middle) r o₂ = next-put o (fixed-head kind l) middle o₁ 0 a p (omega arith) o₂ r q in
+    let all : Put o 0 (fixed-head kind l ++ middle) r o₂ = placed-next o 0 (fixed-head kind l) middle o₁ a (omega arith) p q in
     rw e at all
 
 pub ruleset fixed-laws = (needs, fixed-put)
@@ -70,11 +71,11 @@ module _ (k : Bool) (o a s : List ℕ) (at : ℕ) (h : at + length (itemPart k a
     first-two = let l = part-is k a s in let n = item-length 0x10 a in omega arith
 
     pub items-room-2 : i + length (contextBytes k false s 0) ≤ length o₁
-    items-room-2 = next-room o (itemBytes 0x10 a) (contextBytes k false s 0) o₁ at i p first-two
+    items-room-2 = next-room o at (itemBytes 0x10 a) (contextBytes k false s 0) o₁ i first-two p
 
     module _ (o₂ : List ℕ) (j : ℕ) (q : Put o₁ i (contextBytes k false s 0) j o₂) where
       two-put : Put o at (itemBytes 0x10 a ++ contextBytes k false s 0) j o₂
-      two-put = next-put o (itemBytes 0x10 a) (contextBytes k false s 0) o₁ at i p first-two o₂ j q
+      two-put = next-put o at (itemBytes 0x10 a) (contextBytes k false s 0) o₁ i first-two p q
 
       all-three : at + (length (itemBytes 0x10 a ++ contextBytes k false s 0) + length (itemBytes 0x50 (joined ourUser))) ≤ length o
       all-three =
@@ -89,7 +90,7 @@ module _ (k : Bool) (o a s : List ℕ) (at : ℕ) (h : at + length (itemPart k a
       items-room-3 v f =
           let u = item-length 0x50 (joined ourUser) in
           let e = user-eight in
-          let r = next-room o (itemBytes 0x10 a ++ contextBytes k false s 0) (itemBytes 0x50 (joined ourUser)) o₂ at j two-put all-three in
+          let r = next-room o at (itemBytes 0x10 a ++ contextBytes k false s 0) (itemBytes 0x50 (joined ourUser)) o₂ j all-three two-put in
           let d = ap length f in
           omega arith
 
@@ -97,7 +98,7 @@ module _ (k : Bool) (o a s : List ℕ) (at : ℕ) (h : at + length (itemPart k a
       unfolding itemPart
       items-put u o₃ r e t =
           let all : Put o at ((itemBytes 0x10 a ++ contextBytes k false s 0) ++ itemBytes 0x50 (joined ourUser)) r o₃
-          = next-put o (itemBytes 0x10 a ++ contextBytes k false s 0) (itemBytes 0x50 (joined ourUser)) o₂ at j two-put all-three o₃ r (rw e at t) in
+          = next-put o at (itemBytes 0x10 a ++ contextBytes k false s 0) (itemBytes 0x50 (joined ourUser)) o₂ j all-three two-put (rw e at t) in
           rw (append-assoc (itemBytes 0x10 a) (contextBytes k false s 0) (itemBytes 0x50 (joined ourUser))) at all
 
 pub user-small : (v : List ℕ) → v ≡ joined ourUser → length v < 65536
@@ -155,11 +156,11 @@ module _ (k : Bool) (o middle a s : List ℕ) (n : ℕ) (w : Measured k middle a
     both-parts = let z = size-is in let r = w .room in let f = fixed-long kind n middle (w .fit .middle-long) in omega arith
 
     pub frame-room : i + length (itemPart k a s) ≤ length o₁
-    frame-room = next-room o (fixedPart kind n middle) (itemPart k a s) o₁ 0 i p both-parts
+    frame-room = next-room o 0 (fixedPart kind n middle) (itemPart k a s) o₁ i both-parts p
 
     pub frame-put : (o₂ : List ℕ) (r : ℕ) → Put o₁ i (itemPart k a s) r o₂ → Put o 0 (associateBytes (frameOf k middle a s)) r o₂
     frame-put o₂ r q =
-        let all = next-put o (fixedPart kind n middle) (itemPart k a s) o₁ 0 i p both-parts o₂ r q in
+        let all = next-put o 0 (fixedPart kind n middle) (itemPart k a s) o₁ i both-parts p q in
         rw (frame-parts k middle a s n (w .fit .middle-long) size-is, ← e) all
 
 pub ruleset frame-laws = (needs, frame-fixed, frame-small, frame-room, frame-put)

@@ -1,4 +1,4 @@
-pub mod PieceLaws
+pub mod ItemLaws
 pub mod ContextLaws
 pub mod FrameLaws
 pub mod AssociateLaws

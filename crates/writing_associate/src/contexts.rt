@@ -3,12 +3,11 @@ ghost use mathlib.Core.Path.{_≡_};
 ghost use mathlib.Core.Bool.{false};
 ghost use Prim.Native.Nat.{_+_, _%_, _≤_};
 ghost use lib.ListN.{length, drop};
+ghost use Rattle.octets.specs.Private.Put.{Put};
 ghost use Rattle.sheets.specs.Sheet.{contextsIn};
 ghost use Rattle.sheets.specs.Record.{abstractAt, transferAt};
-ghost use Rattle.writing.specs.Private.Put.{Put};
 ghost use Rattle.writing_associate.specs.Private.Frames.{runBytes, contextBytes, proposalHead, answerHead, leadBytes, stepBytes, Ready, capped};
-use crate::pieces::put;
-use crate::pieces::put_item;
+use crate::item::put_item;
 
 fn transfer_len(s: &[u8], at: usize) -> usize
     ensures { λ r. ⌜ (r ≡ length (transferAt (now (s .entry)) at)) × (r ≤ 64) ⌝ }
@@ -76,7 +75,7 @@ fn put_proposal_head(out: &mut [u8], at: usize, id: u8, a: &[u8], m: usize) -> u
 {
     let n = 8 + a.len() + m;
     let head = [0x20, 0, (n / 256) as u8, (n % 256) as u8, id, 0, 0, 0];
-    let next = put(out, at, &head);
+    let next = octets::put(out, at, &head);
     put_item(out, next, 0x30, a)
 }
 
@@ -87,7 +86,7 @@ fn put_answer_head(out: &mut [u8], at: usize, id: u8, result: u8, m: usize) -> u
 {
     let n = 8 + m;
     let head = [0x21, 0, (n / 256) as u8, (n % 256) as u8, id, 0, result, 0];
-    put(out, at, &head)
+    octets::put(out, at, &head)
 }
 
 fn put_lead(out: &mut [u8], n: usize, answer: bool, going: bool, s: &[u8], at: usize) -> usize

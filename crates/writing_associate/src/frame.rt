@@ -4,14 +4,13 @@ ghost use mathlib.Core.Bool.{cond};
 ghost use Prim.Native.Nat.{_+_, _%_, _≤_};
 ghost use lib.ListN.{length};
 ghost use Rattle.laws.specs.Lists.{joined};
+ghost use Rattle.octets.specs.Private.Put.{Put};
 ghost use Rattle.writing.specs.Wire.{ourUser, associateBytes};
 ghost use Rattle.writing.specs.Form.{Wrote};
-ghost use Rattle.writing.specs.Private.Put.{Put};
 ghost use Rattle.writing_associate.specs.Private.Frames.{base as baseOf, itemPart, fixedPart, frameOf, frameForm, Fit, Measured};
 use crate::contexts::measure;
 use crate::contexts::put_contexts;
-use crate::pieces::put;
-use crate::pieces::put_item;
+use crate::item::put_item;
 use writing::Sent;
 
 // The sub-items of the user information: our maximum length.
@@ -36,8 +35,8 @@ fn put_fixed(out: &mut [u8], kind: u8, n: usize, middle: &[u8]) -> usize
 {
     let l = octets::four_of(n as u32);
     let head = [kind, 0, l[0], l[1], l[2], l[3], 0, 1, 0, 0];
-    let a = put(out, 0, &head);
-    put(out, a, middle)
+    let a = octets::put(out, 0, &head);
+    octets::put(out, a, middle)
 }
 
 fn put_items(out: &mut [u8], at: usize, answer: bool, application: &[u8], sheet: &[u8]) -> usize

@@ -1,7 +1,7 @@
 // Writes an A-ASSOCIATE-RQ and an A-ASSOCIATE-AC, each in its one form, into a lent output.
 mod contexts;
 mod frame;
-mod pieces;
+mod item;
 
 ghost use mathlib.Core.Path.{_≡_};
 ghost use mathlib.Core.List.{_++_};

@@ -1,16 +1,15 @@
--- For the private functions: the records of a context's body, and how many they are. Names longer than a field are cut, which no valid PDU has.
+-- For the private functions: the records of the contexts in an RQ or AC. Names longer than a field are cut, which no valid PDU has.
 use Prim.Native.Nat.{ℕ, _+_}
-use mathlib.Core.Path.{_≡_}
 use mathlib.Core.Bool.{cond}
 use mathlib.Core.List.{List, [], _∷_, _++_}
-use lib.ListN.{length, drop, getD}
+use lib.ListN.{length}
 use lib.Dec.{eqb}
-use Rattle.octets.specs.Put.{put}
-use Rattle.items.specs.Items.{walk, bodies, first}
+use Rattle.numbers.specs.Kinds.{ASSOCIATE-RQ}
+use Rattle.items.specs.Items.{walk, bodies}
 use Rattle.contents.specs.Contents.{maximumIn}
 use Rattle.judging.specs.Pdu.{versionOf, topItems}
 use Rattle.sheets.specs.Record.{recordOf}
-use Rattle.reading.specs.Associate.{applicationOf, applicationAt}
+use Rattle.reading.specs.Associate.{contextOf, answerOf, applicationOf, applicationAt}
 use Rattle.reading.specs.declared.associate.Associate.{Associate}
 
 -- f of each, one behind the other
@@ -18,31 +17,19 @@ unfoldable pub each : (List ℕ → List ℕ) → List (List ℕ) → List ℕ
 each f [] = []
 each f (x ∷ xs) = f x ++ each f xs
 
--- the records of a 20H or 21H body
+-- the records of the context in the body of a 20H, or of the answer in that of a 21H
 unfoldable pub bodyRecords : ℕ → List ℕ → List ℕ
 bodyRecords k b =
-    cond (eqb k 0x20) (each (recordOf (getD b 0 0) 0 (first (bodies 0x30 (walk (drop 4 b))))) (bodies 0x40 (walk (drop 4 b))))
-    (recordOf (getD b 0 0) (getD b 2 0) [] (first (bodies 0x40 (walk (drop 4 b)))))
+    cond (eqb k 0x20) (each (recordOf (contextOf b .id) 0 (contextOf b .abstr)) (contextOf b .transfers))
+    (recordOf (answerOf b .id) (answerOf b .result) [] (answerOf b .transfer))
 
 -- those of all contexts
 abbrev pub allRecords : ℕ → List ℕ → List ℕ
 allRecords k s = each (bodyRecords k) (bodies k (walk s))
 
-unfoldable pub bodyRows : ℕ → List ℕ → ℕ
-bodyRows k b = cond (eqb k 0x20) (length (bodies 0x40 (walk (drop 4 b)))) 1
-
-unfoldable pub rowsOf : ℕ → List (List ℕ) → ℕ
-rowsOf k [] = 0
-rowsOf k (b ∷ bs) = bodyRows k b + rowsOf k bs
-
--- bs were put into o at a place, which is now o′, and r is the place behind them
-pub record Written (o : List ℕ) (at : ℕ) (bs : List ℕ) (r : ℕ) (o′ : List ℕ) : Type 0 where
-  pub behind : r ≡ at + length bs
-  pub out : o′ ≡ put o at bs
-
 -- the type of a context in a PDU of this kind
 unfoldable pub contextType : ℕ → ℕ
-contextType kind = cond (eqb kind 1) 0x20 0x21
+contextType kind = cond (eqb kind ASSOCIATE-RQ) 0x20 0x21
 
 -- the fields of an RQ or AC that gives so many records
 unfoldable pub fieldsWith : List ℕ → ℕ → Associate

@@ -1,8 +1,8 @@
 -- `put_item` meets its contract.
 -- Assumes nothing.
-use Rattle.writing_associate.proofs.PieceLaws.{item-laws}
-use Rattle.writing_associate.proofs.pieces.put_item.Statement.{statement}
-use Rattle.writing_associate.proofs.pieces.put_item.Tie as tie
+use Rattle.writing_associate.proofs.ItemLaws.{item-laws}
+use Rattle.writing_associate.proofs.item.put_item.Statement.{statement}
+use Rattle.writing_associate.proofs.item.put_item.Tie as tie
 
 pub put-item-spec : {M : Type 1} → statement M
 put-item-spec =
