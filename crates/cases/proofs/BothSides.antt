@@ -19,8 +19,7 @@ use Rattle.judging.specs.Pdu.{whole, requestOk, dataOk, releaseOk, abortPduOk, 
 use Rattle.writing.specs.Ten.{tens, tenOf}
 use Rattle.framing.specs.Framing.{lengthField, frame}
 use Rattle.framing.specs.Engine as eng
-use Rattle.table.specs.Table.{table, cellOf}
-use Rattle.table.specs.Actions.{actions, doesOf, nextOf, showsOf, artimOf}
+use Rattle.table.proofs.Unfolded.{table-unfolded}
 use Rattle.association.specs.Record.{dropping, timed, strayState, overfull, strayDeaf, mistimed, badLength, markedIdle, clauses, broken}
 use Rattle.association.specs.Refusals.{recordRefusal}
 use Rattle.association.specs.Events.{eventOfKind, eventOf}
@@ -39,7 +38,7 @@ unfolding eng.receive frame lengthField be32 be16 put front
 frames = tt
 
 machine : Unit {0}
-unfolding onEvent doing eventOf eventOfKind after entering requestorAfter peerAt acceptsAt abortFor tenBy tenOf tens table cellOf actions doesOf nextOf showsOf artimOf
+unfolding onEvent doing eventOf eventOfKind after entering requestorAfter peerAt acceptsAt abortFor tenBy tenOf tens table-unfolded
 machine = tt
 
 items : Unit {0}

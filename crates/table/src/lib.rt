@@ -95,7 +95,11 @@ const NEXTS: [u8; 28] = *b"\
     \x07\x08\x01\x0d\x01\x07\x08\x0a\x0b\x0c\
     \x0d\x01\x01\x01\x01\x0d\x0d\x0d";
 
-// For the same actions: 1 where the ARTIM timer is started, 2 where it is stopped.
+const STARTS: u8 = 1;
+
+const STOPS: u8 = 2;
+
+// For the same actions: whether the ARTIM timer is started or stopped.
 const TIMERS: [u8; 28] = *b"\
     \x00\x00\x00\x00\x01\x01\x00\x01\
     \x00\x00\
@@ -135,16 +139,16 @@ pub fn cell(event: u8, state: u8) -> u8
     ensures { λ r. ⌜ r ≡ cellOf event state ⌝ }
 {
     if event < 1 {
-        return 0;
+        return NO_ACTION;
     }
     if 19 < event {
-        return 0;
+        return NO_ACTION;
     }
     if state < 1 {
-        return 0;
+        return NO_ACTION;
     }
     if 13 < state {
-        return 0;
+        return NO_ACTION;
     }
     let at = place(event, state);
     CELLS[at]
@@ -191,10 +195,10 @@ pub fn artim_after(action: u8, accepts: bool, before: bool) -> bool
         return !accepts;
     }
     let timer = at(TIMERS, action);
-    if timer == 1 {
+    if timer == STARTS {
         return true;
     }
-    if timer == 2 {
+    if timer == STOPS {
         return false;
     }
     before
