@@ -76,7 +76,7 @@ request-call c z =
       called = t .called;
       calling = t .calling;
       read = λ d g h. same-fields 1 (f .application) (f .sheet) pdu (now (d .given .0)) (now (d .given .1 .0)) (now (d .left .1 .0)) (d .answer) g (d .permitted)
-          (t .read (length (now (d .given .1 .0))) h) (t .sheet (length (now (d .given .1 .0))) h) (t .stands);
+          (t .fields .read (length (now (d .given .1 .0))) h) (t .fields .filled (length (now (d .given .1 .0))) h) (t .fields .stands);
     }
 
 pub accept-call : (c : WriteAccept) → c .answer .refusal ≡ 0
@@ -90,7 +90,7 @@ accept-call c z =
       kind = judged pdu 2 (t .kind);
       echoed = t .echoed;
       read = λ d g h. same-fields 2 (f .application) (f .sheet) pdu (now (d .given .0)) (now (d .given .1 .0)) (now (d .left .1 .0)) (d .answer) g (d .permitted)
-          (t .read (length (now (d .given .1 .0))) h) (t .sheet (length (now (d .given .1 .0))) h) (t .stands);
+          (t .fields .read (length (now (d .given .1 .0))) h) (t .fields .filled (length (now (d .given .1 .0))) h) (t .fields .stands);
     }
 
 pub reject-call : (c : WriteReject) → c .answer .refusal ≡ 0 → RejectBack (rejectOf (c .given .0) (c .given .1 .0) (c .given .1 .1 .0)) (bytesWritten (c .answer) (now (c .left .1 .1 .1 .0)))
