@@ -1,9 +1,10 @@
 -- The round trip of each PDU: what is written is a whole valid PDU of its kind, and reading it gives the same fields, a sheet byte for byte. And what may be read may be written again.
-use Prim.Native.Nat.{ℕ, _/_, _≤_, _<_}
+use Prim.Native.Nat.{ℕ, _/_, _≤_}
 use mathlib.Core.Path.{_≡_}
-use mathlib.Core.Bool.{true}
+use mathlib.Core.Bool.{true, cond}
 use mathlib.Core.List.{List}
 use lib.ListN.{length, take, drop}
+use lib.Dec.{ltb}
 use Rattle.numbers.specs.Refusals.{NOT-REFUSED, BAD-CONTENTS}
 use Rattle.numbers.specs.Kinds.{ASSOCIATE-RQ, ASSOCIATE-AC, ASSOCIATE-RJ, DATA-TF, ABORT}
 use Rattle.numbers.specs.Lengths.{HEADER, LONGEST, RECORD}
@@ -54,21 +55,22 @@ pub record AbortTrip (f : Abort) (pdu : List ℕ) : Type 0 where
   pub kind : kindOf pdu ≡ ABORT
   pub read : values.abortIn pdu ≡ record { refusal = NOT-REFUSED; source = f .source; reason = f .reason }
 
--- what reading PDV n of these answers
-abbrev pub pdvRead : List Pdv → ℕ → DataRead
-pdvRead ps n = record { refusal = NOT-REFUSED; id = pdv ps n .id; control = pdv ps n .control; start = startOf ps n; len = length (pdv ps n .fragment) }
-
 -- "A number past the last is refused with 4."
 abbrev pub pastLast : DataRead
 pastLast = record { refusal = BAD-CONTENTS; id = 0; control = 0; start = 0; len = 0 }
 
--- a P-DATA-TF of the items f: by its number each of their PDVs is read, and its fragment handed back
+-- what reading PDV n of these answers
+unfoldable pub pdvRead : List Pdv → ℕ → DataRead
+pdvRead ps n =
+    cond (ltb n (length ps)) (record { refusal = NOT-REFUSED; id = pdv ps n .id; control = pdv ps n .control; start = startOf ps n; len = length (pdv ps n .fragment) })
+    pastLast
+
+-- a P-DATA-TF of the items f: by its number each of their PDVs is read, and its fragment handed back; past the last the empty one is
 pub record DataTrip (f : Items) (pdu : List ℕ) : Type 0 where
   pub kind : kindOf pdu ≡ DATA-TF
   pub body : drop HEADER pdu ≡ f .items
-  pub read : (n : ℕ) → n < length (pdvs (f .items)) → dataOf pdu n ≡ pdvRead (pdvs (f .items)) n
-  pub fragment : (n : ℕ) → n < length (pdvs (f .items)) → fragmentOf pdu n ≡ pdv (pdvs (f .items)) n .fragment
-  pub past : (n : ℕ) → length (pdvs (f .items)) ≤ n → dataOf pdu n ≡ pastLast
+  pub read : (n : ℕ) → dataOf pdu n ≡ pdvRead (pdvs (f .items)) n
+  pub fragment : (n : ℕ) → fragmentOf pdu n ≡ pdv (pdvs (f .items)) n .fragment
 
 -- ---- and back: the fields that are read from a PDU
 abbrev pub rqRead : List ℕ → RqFields
