@@ -29,7 +29,7 @@ use Rattle.writing.specs.Form.{Form, formRefusal, sentBytes, rqForm, acForm}
 use Rattle.writing.proofs.FormLaws.{refusal-0}
 use Rattle.round_trips.specs.Trips.{RqTrip, AcTrip, rqRead, acRead}
 use Rattle.round_trips.proofs.FrameTrip.{Apart, top-good, among-top, frame-long}
-use Rattle.round_trips.proofs.ContextTrip.{Kind, proposing, answering, bodies-short}
+use Rattle.round_trips.proofs.ContextTrip.{ContextKind, proposing, answering, bodies-short}
 use Rattle.round_trips.proofs.Share.{share, three, first-share}
 use Rattle.round_trips.proofs.SentTrip.{sent-rq, sent-ac}
 
@@ -66,7 +66,7 @@ module _ (k : ℕ) (w : Apart k) (s : List ℕ) (g : itemsOk k s ≡ true) where
       omega arith
 
 -- ---- of either: what is read from a PDU, written again, takes no more bytes
-module _ {C : Type 0} (k : Kind C) (pdu : List ℕ) (n : 74 ≤ length pdu) (g : itemsOk (k .type) (topItems pdu) ≡ true) where
+module _ {C : Type 0} (k : ContextKind C) (pdu : List ℕ) (n : 74 ≤ length pdu) (g : itemsOk (k .type) (topItems pdu) ≡ true) where
   shorter : (f : AssociatePdu) → length (f .middle) ≡ 64 → f .user ≡ ourUser → f .application ≡ applicationOf pdu → f .context ≡ k .type
       → f .bodies ≡ map (k .body) (map (k .read) (bodies (k .type) (walk (topItems pdu)))) → length (associateBytes f) ≤ length pdu
   unfolding applicationOf

@@ -29,11 +29,11 @@ use Rattle.writing.specs.Fields.{RqFields, AcFields, rqGood, acGood}
 use Rattle.writing.specs.Wire.{AssociatePdu, associateItems, associateBytes, pduBytes, rqPdu, acPdu}
 use Rattle.writing.specs.Form.{rqForm, acForm}
 use Rattle.round_trips.specs.Trips.{AssociateTrip, RqTrip, AcTrip, readOf}
-use Rattle.round_trips.proofs.ContextTrip.{Kind, proposing, answering, Bodies, bodies-back}
+use Rattle.round_trips.proofs.ContextTrip.{ContextKind, proposing, answering, Bodies, bodies-back}
 use Rattle.round_trips.proofs.FrameTrip.{Fits, items-small, frame-kind, frame-version, frame-whole, frame-68, at-middle, at-application, at-place, at-bodies, at-maximum, frame-items-ok}
 
 -- ---- of either: the contexts cs, good and of no ID twice, in the bodies of a PDU that fits
-module _ {C : Type 0} (k : Kind C) (f : AssociatePdu) (w : Fits f) (cs : List C) (t : f .context ≡ k .type) (e : f .bodies ≡ map (k .body) cs)
+module _ {C : Type 0} (k : ContextKind C) (f : AssociatePdu) (w : Fits f) (cs : List C) (t : f .context ≡ k .type) (e : f .bodies ≡ map (k .body) cs)
     (g : (leb 1 (length cs) && (all (k .ok) cs && distinct (map (k .id) cs))) ≡ true) where
   some-good : (all (k .ok) cs && distinct (map (k .id) cs)) ≡ true
   some-good = right-of (leb 1 (length cs)) _ g

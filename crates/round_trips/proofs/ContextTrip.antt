@@ -103,7 +103,7 @@ answer-short b g =
     omega arith
 
 -- ---- both as one: what is of this kind, in items of this type
-pub record Kind (C : Type 0) : Type 0 where
+pub record ContextKind (C : Type 0) : Type 0 where
   pub type : ℕ
   pub read : List ℕ → C
   pub body : C → List ℕ
@@ -123,7 +123,7 @@ pub answer-id : (c : Answered) → bodyId (answerBody c) ≡ answeredId c
 unfolding answerBody
 answer-id c = refl
 
-abbrev pub proposing : Kind Context
+abbrev pub proposing : ContextKind Context
 proposing =
     record {
       type = 0x20;
@@ -138,7 +138,7 @@ proposing =
       apart = record { name = refl; name′ = refl; user = refl; user′ = refl };
     }
 
-abbrev pub answering : Kind Answered
+abbrev pub answering : ContextKind Answered
 answering =
     record {
       type = 0x21;
@@ -154,12 +154,12 @@ answering =
     }
 
 -- ---- lists of them: good, read back, and with the same IDs
-pub record Bodies {C : Type 0} (k : Kind C) (cs : List C) : Type 0 where
+pub record Bodies {C : Type 0} (k : ContextKind C) (cs : List C) : Type 0 where
   pub back : map (k .read) (map (k .body) cs) ≡ cs
   pub good : all (contextGood (k .type)) (map (k .body) cs) ≡ true
   pub ids : map bodyId (map (k .body) cs) ≡ map (k .id) cs
 
-module _ {C : Type 0} (k : Kind C) where
+module _ {C : Type 0} (k : ContextKind C) where
   pub bodies-back : (cs : List C) → all (k .ok) cs ≡ true → length (itemsBytes (k .type) (map (k .body) cs)) < 65536 → Bodies k cs
   bodies-back [] q h = record { back = refl; good = refl; ids = refl }
   bodies-back (c ∷ cs) q h =

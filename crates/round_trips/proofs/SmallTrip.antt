@@ -4,7 +4,7 @@ use Prim.Native.Nat.{ℕ, _-_, _≤_}
 use native.Mathlib.Omega.{arith}
 use mathlib.Core.Bool.{Bool, true, false, _&&_, cond}
 use mathlib.Core.List.{List, [], _∷_}
-use mathlib.Core.Path.{_≡_, refl, sym, ap, _∙_}
+use mathlib.Core.Path.{_≡_, refl}
 use lib.ListN.{length, List·getD-eq-default}
 use lib.Dec.{leb, ltb, eqb}
 use borrow.Author.Tests.{le-leb, leb-true, ltb-true, ltb-false}
@@ -17,8 +17,7 @@ use Rattle.judging.specs.Pdu.{whole, rejectPduOk, dataOk, releaseOk, abortPduOk
 use Rattle.judging.proofs.KindLaws.{kind-of-valid}
 use Rattle.reading.specs.Values.{rejectIn, abortIn}
 use Rattle.reading.specs.Data.{pdvsOf, pdv, dataOf, fragmentOf}
-use Rattle.reading.specs.declared.data.DataRead.{DataRead}
-use Rattle.reading.proofs.DataLaws.{data-over, fragment-is, fragment-refused}
+use Rattle.reading.proofs.DataLaws.{fragment-is}
 use Rattle.writing.specs.Fields.{Reject, Items, Abort, rejectGood, itemsGood, abortGood}
 use Rattle.writing.specs.Ten.{tens, tenOf, rejectBytes, abortBytes}
 use Rattle.writing.specs.Wire.{pduBytes}
@@ -107,15 +106,12 @@ module _ (x : List ℕ) (v : kindOf x ≡ 4) (n : ℕ) where
       go false q = rw (v, q)
 
   handed : fragmentOf x n ≡ pdv (pdvsOf x) n .fragment
-  unfolding pdv
+  unfolding pdv fragmentOf dataOf
   handed = go (ltb n (length (pdvsOf x))) refl
     where
       go : (b : Bool) → ltb n (length (pdvsOf x)) ≡ b → fragmentOf x n ≡ pdv (pdvsOf x) n .fragment
       go true q = fragment-is x n v (ltb-true _ _ q)
-      go false q =
-          let h : length (pdvsOf x) ≤ n = ltb-false n (length (pdvsOf x)) q in
-          let r : (dataOf x n .refusal ≡ 0 → ⊥) = λ z. let w : _≡_ {A = ℕ} 4 0 = ap (λ (d : DataRead). d .refusal) (sym (data-over x n v h)) ∙ z in omega arith in
-          fragment-refused x n r .1 ∙ sym (ap (λ (p : Pdv). p .fragment) (List·getD-eq-default (pdvsOf x) (record { id = 0; control = 0; fragment = [] }) h))
+      go false q = rw (v, q, List·getD-eq-default (pdvsOf x) (record { id = 0; control = 0; fragment = [] }) (ltb-false n (length (pdvsOf x)) q))
 
 pub data-trip : (peer : ℕ) (f : Items) → itemsGood f ≡ true → length (dataForm peer f .pdu) - 6 ≤ mostOf peer → DataTrip f (dataForm peer f .pdu)
 unfolding dataForm itemsGood validAs dataOk pduBytes pdvsOf
