@@ -214,7 +214,7 @@ module _ (x : List ℕ) (n : ℕ) (v : kindOf x ≡ 4) (h : n < length (pdvsOf x
       ap length fragment-n ∙ length-take-le (end-n - (at-n + 6)) (drop (6 + at-n + 6) x) (omega arith)
 
   -- the answer
-  pub data-in : dataOf x n ≡ record { refusal = 0; id = pdv (pdvsOf x) n .id; control = pdv (pdvsOf x) n .control; start = startOf (pdvsOf x) n; len = length (pdv (pdvsOf x) n .fragment) }
+  data-in : dataOf x n ≡ record { refusal = 0; id = pdv (pdvsOf x) n .id; control = pdv (pdvsOf x) n .control; start = startOf (pdvsOf x) n; len = length (pdv (pdvsOf x) n .fragment) }
   unfolding dataOf
   data-in = rw (v, lt-ltb n (length (pdvsOf x)) h)
 
@@ -224,7 +224,7 @@ module _ (x : List ℕ) (n : ℕ) (v : kindOf x ≡ 4) (h : n < length (pdvsOf x
   fragment-is = rw data-in (rw length-n (sym fragment-n))
 
   -- and it lies within the PDU
-  pub fragment-within : startOf (pdvsOf x) n + length (pdv (pdvsOf x) n .fragment) ≤ length x
+  fragment-within : startOf (pdvsOf x) n + length (pdv (pdvsOf x) n .fragment) ≤ length x
   unfolding startOf pdvsOf
   fragment-within =
       let i = stands in
@@ -232,11 +232,6 @@ module _ (x : List ℕ) (n : ℕ) (v : kindOf x ≡ 4) (h : n < length (pdvsOf x
       let m = length-n in
       let s = whole-six x (kind-whole x 4 v (λ z. omega arith)) in
       omega arith
-
--- a number past the last
-pub data-over : (x : List ℕ) (n : ℕ) → kindOf x ≡ 4 → length (pdvsOf x) ≤ n → dataOf x n ≡ record { refusal = 4; id = 0; control = 0; start = 0; len = 0 }
-unfolding dataOf
-data-over x n v h = rw (v, le-ltb n (length (pdvsOf x)) h)
 
 -- nothing is handed back by a refusal: the empty part at place 0
 pub fragment-refused : (x : List ℕ) (n : ℕ) → (dataOf x n .refusal ≡ 0 → ⊥) → (dataOf x n .start ≡ 0) × (fragmentOf x n ≡ [])

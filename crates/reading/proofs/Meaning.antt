@@ -27,11 +27,11 @@ use Rattle.reading.specs.Associate.{contextOf, answerOf, proposed, answe
 use Rattle.reading.specs.declared.associate.Associate.{Associate}
 
 -- ---- the contexts of a valid RQ, and the answers of a valid AC, are good
-pub context-good : (b : List ℕ) → good20H b ≡ true → contextOk (contextOf b) ≡ true
+context-good : (b : List ℕ) → good20H b ≡ true → contextOk (contextOf b) ≡ true
 unfolding contextOk contextOf
 context-good b g = both-of _ _ (odd-20 b g) (both-of _ _ (abstract-name b g) (both-of _ _ (some-transfer b g) (transfer-names b g)))
 
-pub answer-good : (b : List ℕ) → good21H b ≡ true → answeredOk (answerOf b) ≡ true
+answer-good : (b : List ℕ) → good21H b ≡ true → answeredOk (answerOf b) ≡ true
 unfolding answeredOk answerOf transferNameOk
 answer-good b g = both-of _ _ (odd-21 b g) (both-of _ _ (le-leb (getD b 2 0) 4 (result-21 b g)) (transfer-name b g))
 
@@ -54,7 +54,7 @@ module _ {C : Type 0} (k : ℕ) (read : List ℕ → C) (good : List ℕ → Boo
 
 -- the filled sheet is a good proposal of just these contexts
 module _ (x : List ℕ) (v : kindOf x ≡ ASSOCIATE-RQ) where
-  pub request-contexts : contextsOk (proposed x) ≡ true
+  request-contexts : contextsOk (proposed x) ≡ true
   unfolding contextsOk proposed contextOf
   request-contexts = listed-good 0x20 contextOf good20H contextOk contextId context-good (λ b. refl) (drop 74 x) (request-items x v) (items-20 (drop 74 x) (request-items x v))
 
@@ -68,7 +68,7 @@ module _ (x : List ℕ) (v : kindOf x ≡ ASSOCIATE-RQ) where
 
 -- or a good answer
 module _ (x : List ℕ) (v : kindOf x ≡ ASSOCIATE-AC) where
-  pub accept-answers : allAnsweredOk (answered x) ≡ true
+  accept-answers : allAnsweredOk (answered x) ≡ true
   unfolding allAnsweredOk answered answerOf
   accept-answers = listed-good 0x21 answerOf good21H answeredOk answeredId answer-good (λ b. refl) (drop 74 x) (accept-items x v) (items-21 (drop 74 x) (accept-items x v))
 

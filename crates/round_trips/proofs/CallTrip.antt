@@ -1,10 +1,9 @@
 -- The round trip over the calls themselves, for all seven: what a writer's contract permits it to send, a reader's contract reads back as the same fields.
 -- Assumes nothing.
 use Prim.Native.Nat.{ℕ, _+_}
-use native.Mathlib.Omega.{arith}
 use mathlib.Core.Path.{_≡_, sym, ap, _∙_}
 use mathlib.Core.Bool.{true}
-use mathlib.Core.List.{List, [], map}
+use mathlib.Core.List.{List, map}
 use lib.ListN.{length, take, drop}
 use denote.Ref.{RefT, ptr, now}
 use Rattle.laws.specs.Lists.{all, joined}
@@ -19,12 +18,11 @@ use Rattle.reading.specs.Values as values
 use Rattle.reading.specs.Data.{dataOf, fragmentOf}
 use Rattle.reading.specs.declared.associate.Associate.{Associate}
 use Rattle.reading.specs.declared.data.DataRead.{DataRead}
-use Rattle.reading.proofs.DataLaws.{fragment-refused}
 use Rattle.writing.specs.Fields.{rqOf, acOf, rejectOf, itemsOf, abortOf}
 use Rattle.writing.specs.Form.{Form, formRefusal, sentBytes, sentOf, Wrote, rqForm, acForm, rejectForm, dataForm, releaseRqForm, releaseRpForm, abortForm}
 use Rattle.writing.specs.declared.Sent.{Sent}
 use Rattle.writing.proofs.FormLaws.{refusal-is}
-use Rattle.round_trips.specs.Trips.{readOf, pastLast, RqTrip, AcTrip, RejectTrip, DataTrip, AbortTrip}
+use Rattle.round_trips.specs.Trips.{readOf, RqTrip, AcTrip, RejectTrip, DataTrip, AbortTrip}
 use Rattle.round_trips.specs.Calls.{WriteRequest, WriteAccept, WriteReject, WriteData, WriteReleaseRequest, WriteReleaseResponse, WriteAbort, bytesWritten, Judged, SameFields, RequestBack, AcceptBack, RejectBack, AbortBack, DataBack}
 use Rattle.round_trips.proofs.SentTrip.{sent-rq, sent-ac, sent-reject, sent-data, sent-release-rq, sent-release-rp, sent-abort}
 
@@ -60,9 +58,6 @@ part-is s r pdu n g p a b =
       bytes = p .bytes ∙ (ap (λ (x : List ℕ). fragmentOf x n) g ∙ b);
     }
 
-none-past : (pdu : List ℕ) (n : ℕ) → dataOf pdu n ≡ pastLast → fragmentOf pdu n ≡ []
-none-past pdu n e = fragment-refused pdu n (λ z. let w : _≡_ {A = ℕ} 4 0 = ap (λ (x : DataRead). x .refusal) (sym e) ∙ z in omega arith) .1
-
 -- ---- the seven
 pub request-call : (c : WriteRequest) → c .answer .refusal ≡ 0
     → RequestBack (rqOf (now (c .given .0)) (now (c .given .1 .0)) (now (c .given .1 .1 .0)) (now (c .given .1 .1 .1 .0))) (bytesWritten (c .answer) (now (c .left .1 .1 .1 .1 .0)))
@@ -76,7 +71,7 @@ request-call c z =
       called = t .called;
       calling = t .calling;
       read = λ d g h. same-fields 1 (f .application) (f .sheet) pdu (now (d .given .0)) (now (d .given .1 .0)) (now (d .left .1 .0)) (d .answer) g (d .permitted)
-          (t .read (length (now (d .given .1 .0))) h) (t .sheet (length (now (d .given .1 .0))) h) (t .stands);
+          (t .fields .read (length (now (d .given .1 .0))) h) (t .fields .filled (length (now (d .given .1 .0))) h) (t .fields .stands);
     }
 
 pub accept-call : (c : WriteAccept) → c .answer .refusal ≡ 0
@@ -90,7 +85,7 @@ accept-call c z =
       kind = judged pdu 2 (t .kind);
       echoed = t .echoed;
       read = λ d g h. same-fields 2 (f .application) (f .sheet) pdu (now (d .given .0)) (now (d .given .1 .0)) (now (d .left .1 .0)) (d .answer) g (d .permitted)
-          (t .read (length (now (d .given .1 .0))) h) (t .sheet (length (now (d .given .1 .0))) h) (t .stands);
+          (t .fields .read (length (now (d .given .1 .0))) h) (t .fields .filled (length (now (d .given .1 .0))) h) (t .fields .stands);
     }
 
 pub reject-call : (c : WriteReject) → c .answer .refusal ≡ 0 → RejectBack (rejectOf (c .given .0) (c .given .1 .0) (c .given .1 .1 .0)) (bytesWritten (c .answer) (now (c .left .1 .1 .1 .0)))
@@ -109,10 +104,8 @@ data-call c z =
     let t = holds (dataForm (c .given .1 .0) f) o (c .answer) (now (c .left .1 .1 .0)) (c .permitted) (DataTrip f) (sent-data (length o) (c .given .1 .0) f) z in
     record {
       kind = judged pdu 4 (t .kind);
-      read = λ d g h. d .permitted ∙ (ap (λ (x : List ℕ). dataOf x (d .given .1 .0)) g ∙ t .read (d .given .1 .0) h);
-      past = λ d g h. d .permitted ∙ (ap (λ (x : List ℕ). dataOf x (d .given .1 .0)) g ∙ t .past (d .given .1 .0) h);
-      own = λ d g h. part-is (d .given .0) (d .answer) pdu (d .given .1 .0) g (d .permitted) (ap (λ (x : DataRead). x .start) (t .read (d .given .1 .0) h)) (t .fragment (d .given .1 .0) h);
-      none = λ d g h. part-is (d .given .0) (d .answer) pdu (d .given .1 .0) g (d .permitted) (ap (λ (x : DataRead). x .start) (t .past (d .given .1 .0) h)) (none-past pdu (d .given .1 .0) (t .past (d .given .1 .0) h));
+      read = λ d g. d .permitted ∙ (ap (λ (x : List ℕ). dataOf x (d .given .1 .0)) g ∙ t .read (d .given .1 .0));
+      own = λ d g. part-is (d .given .0) (d .answer) pdu (d .given .1 .0) g (d .permitted) (ap (λ (x : DataRead). x .start) (t .read (d .given .1 .0))) (t .fragment (d .given .1 .0));
     }
 
 -- items that are the bytes of PDVs: these PDVs

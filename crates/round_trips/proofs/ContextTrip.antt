@@ -1,11 +1,11 @@
--- A context's and an answer's item body: what is written is good and reads back.
+-- The contexts of an RQ and the answers of an AC, each in its item's body: what is written is good and reads back, and what is read is written in no more bytes.
 -- Assumes nothing.
-use Prim.Native.Nat.{ℕ, _<_}
+use Prim.Native.Nat.{ℕ, _≤_, _<_}
 use native.Mathlib.Omega.{arith}
-use mathlib.Core.Bool.{true, _&&_}
+use mathlib.Core.Bool.{Bool, true, _&&_}
 use mathlib.Core.List.{List, [], _∷_, map, append-nil}
 use mathlib.Core.Path.{_≡_, refl, sym, ap, _∙_}
-use lib.ListN.{length, drop, replicate, length-append}
+use lib.ListN.{length, drop, replicate, length-append, length-drop}
 use lib.Dec.{leb}
 use borrow.Author.Tests.{le-leb}
 use Rattle.laws.specs.Lists.{all, among}
@@ -16,10 +16,13 @@ use Rattle.items.specs.Wire.{itemBytes, itemsBytes}
 use Rattle.items.proofs.WalkLaws.{walk-nil}
 use Rattle.items.proofs.WireLaws.{item-length, walk-item, walk-last, run, items-cons, walk-items, bodies-run, written}
 use Rattle.octets.specs.Octets.{odd}
-use Rattle.contents.specs.Contents.{contextKnown, named, contextOrder, subsOk, good20H, one, transferItemOk as walkedOk, good21H, bodyId}
+use Rattle.contents.specs.Contents.{contextKnown, named, contextOrder, subsOk, good20H, one, transferItemOk as walkedOk, good21H, contextGood, bodyId}
+use Rattle.contents.proofs.GoodLaws.{four-20, filled-20, counts-20, one-filled, one-count, four-21, one-21}
 use Rattle.sheets.specs.Contexts.{Context, Answered, contextId, answeredId, contextOk, answeredOk, transferNameOk}
 use Rattle.reading.specs.Associate.{contextOf, answerOf}
 use Rattle.writing.specs.Wire.{contextBody, answerBody}
+use Rattle.round_trips.proofs.FrameTrip.{Apart}
+use Rattle.round_trips.proofs.Share.{three, first-share}
 
 -- ---- a context
 walk-context : (c : Context) → length (contextBody c) < 65536 → walk (drop 4 (contextBody c)) ≡ item 0x30 (c .abstr) (run 0x40 (c .transfers) done)
@@ -30,7 +33,7 @@ walk-context c h =
     walk-item 0x30 (c .abstr) (itemsBytes 0x40 (c .transfers)) (omega arith)
     ∙ ap (item 0x30 (c .abstr)) (ap walk (sym (append-nil (itemsBytes 0x40 (c .transfers)))) ∙ (walk-items 0x40 (c .transfers) [] (omega arith) ∙ ap (run 0x40 (c .transfers)) walk-nil))
 
-context-back : (c : Context) → length (contextBody c) < 65536 → contextOf (contextBody c) ≡ c
+pub context-back : (c : Context) → length (contextBody c) < 65536 → contextOf (contextBody c) ≡ c
 unfolding contextOf bodies contextBody
 context-back c h =
     let w = walk-context c h in
@@ -49,66 +52,133 @@ subs-written : (x : List ℕ) (xs : List (List ℕ)) → nameOk x ≡ true → l
 unfolding subsOk bodies
 subs-written x xs n p q = rw (bodies-run 0x40 xs done, append-nil xs) (both-of _ _ p (subs-held x xs n q))
 
-context-good : (c : Context) → contextOk c ≡ true → length (contextBody c) < 65536 → good20H (contextBody c) ≡ true
-unfolding good20H contextOk contextBody
+pub context-good : (c : Context) → contextOk c ≡ true → length (contextBody c) < 65536 → contextGood 0x20 (contextBody c) ≡ true
+unfolding contextGood good20H contextOk contextBody
 context-good c k h =
     let k₂ : (nameOk (c .abstr) && (leb 1 (length (c .transfers)) && all nameOk (c .transfers))) ≡ true = right-of (odd (c .id)) _ k in
     let k₃ : (leb 1 (length (c .transfers)) && all nameOk (c .transfers)) ≡ true = right-of (nameOk (c .abstr)) _ k₂ in
     let w : subsOk (walk (drop 4 (contextBody c))) ≡ true = ap subsOk (walk-context c h) ∙ subs-written (c .abstr) (c .transfers) (left-of _ _ k₂) (left-of _ _ k₃) (right-of (leb 1 (length (c .transfers))) _ k₃) in
     both-of _ _ (le-leb 4 (length (contextBody c)) (omega arith)) (both-of (odd (c .id)) _ (left-of _ _ k) w)
 
+pub context-short : (b : List ℕ) → contextGood 0x20 b ≡ true → length (contextBody (contextOf b)) ≤ length b
+unfolding contextGood contextBody contextOf
+context-short b g =
+    let a = item-length 0x30 (first (bodies 0x30 (walk (drop 4 b)))) in
+    let l = length-append (itemBytes 0x30 (first (bodies 0x30 (walk (drop 4 b))))) (itemsBytes 0x40 (bodies 0x40 (walk (drop 4 b)))) in
+    let c = counts-20 b g .abstracts in
+    let f = first-share 0x30 (bodies 0x30 (walk (drop 4 b))) (omega arith) in
+    let t = three 0x30 0x40 0x51 (drop 4 b) refl refl refl (filled-20 b g) in
+    let d = length-drop 4 b in
+    let n = four-20 b g in
+    omega arith
+
 -- ---- an answer
 walk-answer : (c : Answered) → length (answerBody c) < 65536 → walk (drop 4 (answerBody c)) ≡ item 0x40 (c .transfer) done
 unfolding answerBody
 walk-answer c h = let k = item-length 0x40 (c .transfer) in walk-last 0x40 (c .transfer) (omega arith)
 
-answer-back : (c : Answered) → length (answerBody c) < 65536 → answerOf (answerBody c) ≡ c
+pub answer-back : (c : Answered) → length (answerBody c) < 65536 → answerOf (answerBody c) ≡ c
 unfolding answerOf answerBody bodies
 answer-back c h =
     let x : first (bodies 0x40 (walk (drop 4 (answerBody c)))) ≡ c .transfer = ap (λ (v : Walk). first (bodies 0x40 v)) (walk-answer c h) in
     λ i. record { id = c .id; result = c .result; transfer = x i }
 
-answer-good : (c : Answered) → answeredOk c ≡ true → length (answerBody c) < 65536 → good21H (answerBody c) ≡ true
-unfolding good21H answeredOk transferNameOk answerBody walkedOk one filled bodies goodBodies
+pub answer-good : (c : Answered) → answeredOk c ≡ true → length (answerBody c) < 65536 → contextGood 0x21 (answerBody c) ≡ true
+unfolding contextGood good21H answeredOk transferNameOk answerBody walkedOk one filled bodies goodBodies
 answer-good c k h =
     let k₂ : (leb (c .result) 4 && transferNameOk (c .result) (c .transfer)) ≡ true = right-of (odd (c .id)) _ k in
     let n : nameOk (c .transfer) ≡ true = right-of (leb (c .result) 4) _ k₂ in
     let w : walkedOk (c .result) (walk (drop 4 (answerBody c))) ≡ true = ap (walkedOk (c .result)) (walk-answer c h) ∙ rw n in
     both-of _ _ (le-leb 4 (length (answerBody c)) (omega arith)) (both-of (odd (c .id)) _ (left-of _ _ k) (both-of (leb (c .result) 4) _ (left-of _ _ k₂) w))
 
--- ---- lists of them: good, read back, and with the same IDs
-pub record Contexts (cs : List Context) : Type 0 where
-  pub back : map contextOf (map contextBody cs) ≡ cs
-  pub good : all good20H (map contextBody cs) ≡ true
-  pub ids : map bodyId (map contextBody cs) ≡ map contextId cs
+pub answer-short : (b : List ℕ) → contextGood 0x21 b ≡ true → length (answerBody (answerOf b)) ≤ length b
+unfolding contextGood answerBody answerOf
+answer-short b g =
+    let n = one-count 0x40 (walk (drop 4 b)) (one-21 b g) in
+    let f = first-share 0x40 (bodies 0x40 (walk (drop 4 b))) (omega arith) in
+    let t = three 0x30 0x40 0x51 (drop 4 b) refl refl refl (one-filled 0x40 (walk (drop 4 b)) (one-21 b g)) in
+    let d = length-drop 4 b in
+    let m = four-21 b g in
+    let a = item-length 0x40 (first (bodies 0x40 (walk (drop 4 b)))) in
+    omega arith
 
-pub contexts-trip : (cs : List Context) → all contextOk cs ≡ true → length (itemsBytes 0x20 (map contextBody cs)) < 65536 → Contexts cs
+-- ---- both as one: what is of this kind, in items of this type
+pub record ContextKind (C : Type 0) : Type 0 where
+  pub type : ℕ
+  pub read : List ℕ → C
+  pub body : C → List ℕ
+  pub ok : C → Bool
+  pub id : C → ℕ
+  pub reads-back : (c : C) → length (body c) < 65536 → read (body c) ≡ c
+  pub writes-good : (c : C) → ok c ≡ true → length (body c) < 65536 → contextGood type (body c) ≡ true
+  pub writes-id : (c : C) → bodyId (body c) ≡ id c
+  pub short : (b : List ℕ) → contextGood type b ≡ true → length (body (read b)) ≤ length b
+  pub apart : Apart type
+
+pub context-id : (c : Context) → bodyId (contextBody c) ≡ contextId c
 unfolding contextBody
-contexts-trip [] k h = record { back = refl; good = refl; ids = refl }
-contexts-trip (c ∷ cs) k h =
-    let l = items-cons 0x20 (contextBody c) (map contextBody cs) in
-    let r = contexts-trip cs (right-of (contextOk c) _ k) (omega arith) in
-    let b = context-back c (omega arith) in
-    record {
-      back = λ i. b i ∷ r .back i;
-      good = both-of _ _ (context-good c (left-of _ _ k) (omega arith)) (r .good);
-      ids = λ i. c .id ∷ r .ids i;
-    }
+context-id c = refl
 
-pub record Answers (cs : List Answered) : Type 0 where
-  pub back : map answerOf (map answerBody cs) ≡ cs
-  pub good : all good21H (map answerBody cs) ≡ true
-  pub ids : map bodyId (map answerBody cs) ≡ map answeredId cs
-
-pub answers-trip : (cs : List Answered) → all answeredOk cs ≡ true → length (itemsBytes 0x21 (map answerBody cs)) < 65536 → Answers cs
+pub answer-id : (c : Answered) → bodyId (answerBody c) ≡ answeredId c
 unfolding answerBody
-answers-trip [] k h = record { back = refl; good = refl; ids = refl }
-answers-trip (c ∷ cs) k h =
-    let l = items-cons 0x21 (answerBody c) (map answerBody cs) in
-    let r = answers-trip cs (right-of (answeredOk c) _ k) (omega arith) in
-    let b = answer-back c (omega arith) in
+answer-id c = refl
+
+abbrev pub proposing : ContextKind Context
+proposing =
     record {
-      back = λ i. b i ∷ r .back i;
-      good = both-of _ _ (answer-good c (left-of _ _ k) (omega arith)) (r .good);
-      ids = λ i. c .id ∷ r .ids i;
+      type = 0x20;
+      read = contextOf;
+      body = contextBody;
+      ok = contextOk;
+      id = contextId;
+      reads-back = context-back;
+      writes-good = context-good;
+      writes-id = context-id;
+      short = context-short;
+      apart = record { name = refl; name′ = refl; user = refl; user′ = refl };
     }
+
+abbrev pub answering : ContextKind Answered
+answering =
+    record {
+      type = 0x21;
+      read = answerOf;
+      body = answerBody;
+      ok = answeredOk;
+      id = answeredId;
+      reads-back = answer-back;
+      writes-good = answer-good;
+      writes-id = answer-id;
+      short = answer-short;
+      apart = record { name = refl; name′ = refl; user = refl; user′ = refl };
+    }
+
+-- ---- lists of them: good, read back, and with the same IDs
+pub record Bodies {C : Type 0} (k : ContextKind C) (cs : List C) : Type 0 where
+  pub back : map (k .read) (map (k .body) cs) ≡ cs
+  pub good : all (contextGood (k .type)) (map (k .body) cs) ≡ true
+  pub ids : map bodyId (map (k .body) cs) ≡ map (k .id) cs
+
+module _ {C : Type 0} (k : ContextKind C) where
+  pub bodies-back : (cs : List C) → all (k .ok) cs ≡ true → length (itemsBytes (k .type) (map (k .body) cs)) < 65536 → Bodies k cs
+  bodies-back [] q h = record { back = refl; good = refl; ids = refl }
+  bodies-back (c ∷ cs) q h =
+      let l = items-cons (k .type) (k .body c) (map (k .body) cs) in
+      let r = bodies-back cs (right-of (k .ok c) _ q) (omega arith) in
+      let b = k .reads-back c (omega arith) in
+      let n = k .writes-id c in
+      record {
+        back = λ i. b i ∷ r .back i;
+        good = both-of _ _ (k .writes-good c (left-of _ _ q) (omega arith)) (r .good);
+        ids = λ i. n i ∷ r .ids i;
+      }
+
+  -- read and written again
+  pub bodies-short : (bs : List (List ℕ)) → all (contextGood (k .type)) bs ≡ true → length (itemsBytes (k .type) (map (k .body) (map (k .read) bs))) ≤ length (itemsBytes (k .type) bs)
+  bodies-short [] q = omega arith
+  bodies-short (b ∷ bs) q =
+      let r = bodies-short bs (right-of (contextGood (k .type) b) _ q) in
+      let c = k .short b (left-of _ _ q) in
+      let i = items-cons (k .type) b bs in
+      let j = items-cons (k .type) (k .body (k .read b)) (map (k .body) (map (k .read) bs)) in
+      omega arith

@@ -46,56 +46,70 @@ user-small : length (joined ourUser) ≡ 8
 unfolding ourUser itemBytes
 user-small = refl
 
+-- ---- the type of a context is neither that of the application name nor that of the user information
+pub record Apart (k : ℕ) : Type 0 where
+  pub name : eqb k 0x10 ≡ false
+  pub name′ : eqb 0x10 k ≡ false
+  pub user : eqb k 0x50 ≡ false
+  pub user′ : eqb 0x50 k ≡ false
+
 -- ---- a 10H, contexts of type k and our 50H
-module _ (k : ℕ) (b : eqb 0x10 k ≡ false) (c : eqb 0x50 k ≡ false) where
+module _ (k : ℕ) (a : Apart k) where
   top-bodies : (x : List ℕ) (bs : List (List ℕ)) (u : List ℕ) → bodies k (item 0x10 x (run k bs (item 0x50 u done))) ≡ bs
   unfolding bodies
-  top-bodies x bs u = rw b (bodies-run k bs (item 0x50 u done) ∙ rw c (append-nil bs))
+  top-bodies x bs u = rw (a .name′) (bodies-run k bs (item 0x50 u done) ∙ rw (a .user′) (append-nil bs))
 
-  context-good : eqb k 0x10 ≡ false → (x : List ℕ) → topGood k k x ≡ contextGood k x
+  context-good : (x : List ℕ) → topGood k k x ≡ contextGood k x
   unfolding topGood
-  context-good a x = simp (a, eq-eqb k k refl)
+  context-good x = simp (a .name, eq-eqb k k refl)
 
-  top-good : eqb k 0x10 ≡ false → (bs : List (List ℕ)) → all (contextGood k) bs ≡ true → all (topGood k k) bs ≡ true
-  top-good a bs q = ap (λ (p : List ℕ → Bool). all p bs) (λ i x. context-good a x i) ∙ q
+  pub top-good : (bs : List (List ℕ)) → all (topGood k k) bs ≡ all (contextGood k) bs
+  top-good bs = ap (λ (p : List ℕ → Bool). all p bs) (λ i x. context-good x i)
 
-  top-held : eqb k 0x10 ≡ false → (x : List ℕ) (bs : List (List ℕ)) → nameOk x ≡ true → all (contextGood k) bs ≡ true
+  pub among-top : among k (topKnown k) ≡ true
+  unfolding among
+  among-top = rw (eq-eqb k k refl) (or-true (eqb k 0x10))
+
+  top-held : (x : List ℕ) (bs : List (List ℕ)) → nameOk x ≡ true → all (contextGood k) bs ≡ true
       → holds (topKnown k) (topGood k) (topOrder k (length bs)) (item 0x10 x (run k bs (item 0x50 (joined ourUser) done))) ≡ true
   unfolding topGood goodBodies bodies filled types only among
-  top-held a x bs n q =
-      let i : among k (topKnown k) ≡ true = rw (eq-eqb k k refl) (or-true (eqb k 0x10)) in
-      let o : only (topKnown k) (types (item 0x50 (joined ourUser) done)) ≡ 0x50 ∷ [] = rw c in
-      let g : goodBodies (topKnown k) (topGood k) (item 0x50 (joined ourUser) done) ≡ true = rw (c, user-good) in
-      let h = written (topKnown k) (topGood k) 0x10 k x bs (item 0x50 (joined ourUser) done) refl i n (top-good a bs q) refl g in
+  top-held x bs n q =
+      let o : only (topKnown k) (types (item 0x50 (joined ourUser) done)) ≡ 0x50 ∷ [] = rw (a .user′) in
+      let g : goodBodies (topKnown k) (topGood k) (item 0x50 (joined ourUser) done) ≡ true = rw (a .user′, user-good) in
+      let h = written (topKnown k) (topGood k) 0x10 k x bs (item 0x50 (joined ourUser) done) refl among-top n (top-good bs ∙ q) refl g in
       ap (λ (l : List ℕ). holds (topKnown k) (topGood k) (0x10 ∷ (replicate (length bs) k ++ l)) (item 0x10 x (run k bs (item 0x50 (joined ourUser) done)))) (sym o) ∙ h
 
-  top-written : eqb k 0x10 ≡ false → (x : List ℕ) (bs : List (List ℕ)) → nameOk x ≡ true → leb 1 (length bs) ≡ true → all (contextGood k) bs ≡ true → topOk k (item 0x10 x (run k bs (item 0x50 (joined ourUser) done))) ≡ true
+  top-written : (x : List ℕ) (bs : List (List ℕ)) → nameOk x ≡ true → leb 1 (length bs) ≡ true → all (contextGood k) bs ≡ true → topOk k (item 0x10 x (run k bs (item 0x50 (joined ourUser) done))) ≡ true
   unfolding topOk
-  top-written a x bs n p q = rw (top-bodies x bs (joined ourUser)) (both-of _ _ p (top-held a x bs n q))
+  top-written x bs n p q = rw (top-bodies x bs (joined ourUser)) (both-of _ _ p (top-held x bs n q))
 
--- ---- a frame that fits: k is the type of its contexts
+-- ---- a PDU that fits
 pub record Fits (f : AssociatePdu) : Type 0 where
   pub middle : length (f .middle) ≡ 64
   pub limit : length (associateBytes f) ≤ 16390
   pub user : f .user ≡ ourUser
+  pub apart : Apart (f .context)
+
+-- how long it is
+module _ (f : AssociatePdu) (m : length (f .middle) ≡ 64) (u : f .user ≡ ourUser) where
+  pub frame-long : length (associateBytes f) ≡ 74 + (4 + length (f .application) + (length (itemsBytes (f .context) (f .bodies)) + 12))
+  unfolding associateBytes pduBytes associateItems
+  frame-long =
+      let e = ap (λ (x : List (List ℕ)). length (joined x)) u in
+      let o = user-small in
+      let l = length-append (f .middle) (associateItems f) in
+      let i : length (associateItems f) ≡ 4 + length (f .application) + (length (itemsBytes (f .context) (f .bodies)) + (4 + length (joined (f .user)))) = simp (length-append, item-length) in
+      omega arith
 
 module _ (f : AssociatePdu) (w : Fits f) where
-  frame-size : length (associateBytes f) ≡ length (associateItems f) + 74
-  unfolding associateBytes pduBytes
-  frame-size = let a = w .middle in let l = length-append (f .middle) (associateItems f) in omega arith
-
-  items-size : length (associateItems f) ≡ 4 + length (f .application) + (length (itemsBytes (f .context) (f .bodies)) + (4 + length (joined (f .user))))
-  unfolding associateItems
-  items-size = simp (length-append, item-length)
-
   pub items-small : length (itemsBytes (f .context) (f .bodies)) < 65536
-  items-small = let a = frame-size in let b = items-size in let c = w .limit in omega arith
+  items-small = let a = frame-long f (w .middle) (w .user) in let c = w .limit in omega arith
 
   name-small : length (f .application) < 65536
-  name-small = let a = frame-size in let b = items-size in let c = w .limit in omega arith
+  name-small = let a = frame-long f (w .middle) (w .user) in let c = w .limit in omega arith
 
   last-small : length (joined (f .user)) < 65536
-  last-small = let a = frame-size in let b = items-size in let c = w .limit in omega arith
+  last-small = let e = ap (λ (x : List (List ℕ)). length (joined x)) (w .user) in let o = user-small in omega arith
 
   -- where the parts stand
   pub frame-kind : typeOf (associateBytes f) ≡ f .kind
@@ -146,23 +160,21 @@ module _ (f : AssociatePdu) (w : Fits f) where
   unfolding place
   at-place = ap (place 0x10) walked
 
-  module _ (a : eqb 0x10 (f .context) ≡ false) (b : eqb 0x50 (f .context) ≡ false) where
-    pub at-bodies : bodies (f .context) (walk (topItems (associateBytes f))) ≡ f .bodies
-    at-bodies =
-        ap (bodies (f .context)) walked ∙ top-bodies (f .context) a b (f .application) (f .bodies) (joined (f .user))
+  pub at-bodies : bodies (f .context) (walk (topItems (associateBytes f))) ≡ f .bodies
+  at-bodies = ap (bodies (f .context)) walked ∙ top-bodies (f .context) (w .apart) (f .application) (f .bodies) (joined (f .user))
 
-  pub at-maximum : eqb (f .context) 0x50 ≡ false → maximumIn (topItems (associateBytes f)) ≡ 16384
+  pub at-maximum : maximumIn (topItems (associateBytes f)) ≡ 16384
   unfolding maximumIn bodies walk walkIn step ourUser itemBytes be16 be32
-  at-maximum c =
+  at-maximum =
       let u : first (bodies 0x50 (walk (topItems (associateBytes f)))) ≡ joined ourUser
-      = ap (λ (v : Walk). first (bodies 0x50 v)) walked ∙ (ap first (bodies-past 0x50 (f .context) (f .bodies) (item 0x50 (joined (f .user)) done) c) ∙ ap joined (w .user)) in
+      = ap (λ (v : Walk). first (bodies 0x50 v)) walked ∙ (ap first (bodies-past 0x50 (f .context) (f .bodies) (item 0x50 (joined (f .user)) done) (w .apart .user)) ∙ ap joined (w .user)) in
       ap (λ (x : List ℕ). be32 (first (bodies 0x51 (walk x))) 0) u
 
   -- "one 10H, one or more contexts .. one 50H", no ID twice
-  pub frame-items-ok : eqb (f .context) 0x10 ≡ false → eqb 0x10 (f .context) ≡ false → eqb 0x50 (f .context) ≡ false → nameOk (f .application) ≡ true → leb 1 (length (f .bodies)) ≡ true
-      → all (contextGood (f .context)) (f .bodies) ≡ true → distinct (map bodyId (f .bodies)) ≡ true → itemsOk (f .context) (topItems (associateBytes f)) ≡ true
+  pub frame-items-ok : nameOk (f .application) ≡ true → leb 1 (length (f .bodies)) ≡ true → all (contextGood (f .context)) (f .bodies) ≡ true → distinct (map bodyId (f .bodies)) ≡ true
+      → itemsOk (f .context) (topItems (associateBytes f)) ≡ true
   unfolding itemsOk ids
-  frame-items-ok a b c n p q d =
-      let z : item 0x10 (f .application) (run (f .context) (f .bodies) (item 0x50 (joined (f .user)) done)) ≡ item 0x10 (f .application) (run (f .context) (f .bodies) (item 0x50 (joined ourUser) done)) = ap (λ (u : List (List ℕ)). item 0x10 (f .application) (run (f .context) (f .bodies) (item 0x50 (joined u) done))) (w .user) in
-      both-of _ _ (ap (topOk (f .context)) (walked ∙ z) ∙ top-written (f .context) b c a (f .application) (f .bodies) n p q)
-      (ap (λ (l : List (List ℕ)). distinct (map bodyId l)) (at-bodies b c) ∙ d)
+  frame-items-ok n p q d =
+      let z = ap (λ (u : List (List ℕ)). item 0x10 (f .application) (run (f .context) (f .bodies) (item 0x50 (joined u) done))) (w .user) in
+      both-of _ _ (ap (topOk (f .context)) (walked ∙ z) ∙ top-written (f .context) (w .apart) (f .application) (f .bodies) n p q)
+      (ap (λ (l : List (List ℕ)). distinct (map bodyId l)) at-bodies ∙ d)

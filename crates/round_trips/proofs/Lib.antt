@@ -1,10 +1,8 @@
-pub mod ContextTrip
+pub mod Share
 pub mod FrameTrip
-pub mod KindTrip
-pub mod RqTrip
-pub mod AcTrip
+pub mod ContextTrip
+pub mod AssociateTrip
 pub mod SmallTrip
 pub mod SentTrip
-pub mod Share
 pub mod Again
 pub mod CallTrip

@@ -7,8 +7,7 @@ use Rattle.writing.specs.Fields.{RqFields, AcFields, Reject, Items, Abort}
 use Rattle.writing.specs.Form.{formRefusal, sentBytes, rqForm, acForm, rejectForm, dataForm, releaseRqForm, releaseRpForm, abortForm}
 use Rattle.writing.proofs.FormLaws.{answered}
 use Rattle.round_trips.specs.Trips.{RqTrip, AcTrip, RejectTrip, DataTrip, AbortTrip}
-use Rattle.round_trips.proofs.RqTrip.{rq-trip}
-use Rattle.round_trips.proofs.AcTrip.{ac-trip}
+use Rattle.round_trips.proofs.AssociateTrip.{rq-trip, ac-trip}
 use Rattle.round_trips.proofs.SmallTrip.{reject-trip, abort-trip, release-rq-trip, release-rp-trip, data-trip}
 
 module _ (room : ℕ) where

@@ -5,9 +5,9 @@ use native.Mathlib.Omega.{arith}
 use mathlib.Core.Bool.{Bool, true, false, _&&_, cond}
 use mathlib.Core.List.{List, [], _∷_}
 use mathlib.Core.Path.{_≡_, refl}
-use lib.ListN.{length}
-use lib.Dec.{leb, eqb}
-use borrow.Author.Tests.{le-leb, leb-true}
+use lib.ListN.{length, List·getD-eq-default}
+use lib.Dec.{leb, ltb, eqb}
+use borrow.Author.Tests.{le-leb, leb-true, ltb-true, ltb-false}
 use Rattle.laws.specs.Lists.{all}
 use Rattle.laws.proofs.Booleans.{left-of, right-of, both-of}
 use Rattle.octets.specs.Octets.{be16, be32, odd}
@@ -16,13 +16,13 @@ use Rattle.pdvs.specs.Data.{Pdv, pdvs, size, pdvOk, pdvsOk}
 use Rattle.judging.specs.Pdu.{whole, rejectPduOk, dataOk, releaseOk, abortPduOk, validAs, kindOf}
 use Rattle.judging.proofs.KindLaws.{kind-of-valid}
 use Rattle.reading.specs.Values.{rejectIn, abortIn}
-use Rattle.reading.specs.Data.{pdvsOf}
-use Rattle.reading.proofs.DataLaws.{data-in, data-over, fragment-is}
+use Rattle.reading.specs.Data.{pdvsOf, pdv, dataOf, fragmentOf}
+use Rattle.reading.proofs.DataLaws.{fragment-is}
 use Rattle.writing.specs.Fields.{Reject, Items, Abort, rejectGood, itemsGood, abortGood}
 use Rattle.writing.specs.Ten.{tens, tenOf, rejectBytes, abortBytes}
 use Rattle.writing.specs.Wire.{pduBytes}
 use Rattle.writing.specs.Form.{rejectForm, mostOf, dataForm, releaseRqForm, releaseRpForm, abortForm}
-use Rattle.round_trips.specs.Trips.{RejectTrip, AbortTrip, DataTrip}
+use Rattle.round_trips.specs.Trips.{RejectTrip, AbortTrip, pdvRead, DataTrip}
 use Rattle.round_trips.proofs.FrameTrip.{pdu-whole, pdu-long}
 
 -- ---- RJ
@@ -95,16 +95,28 @@ most-low peer = go (eqb peer 0) (leb peer 16384) refl
     go false true q = leb-true peer 16384 q
     go false false q = omega arith
 
+-- PDV n of a valid P-DATA-TF, or none
+module _ (x : List ℕ) (v : kindOf x ≡ 4) (n : ℕ) where
+  read-is : dataOf x n ≡ pdvRead (pdvsOf x) n
+  unfolding pdvRead dataOf
+  read-is = go (ltb n (length (pdvsOf x))) refl
+    where
+      go : (b : Bool) → ltb n (length (pdvsOf x)) ≡ b → dataOf x n ≡ pdvRead (pdvsOf x) n
+      go true q = rw (v, q)
+      go false q = rw (v, q)
+
+  handed : fragmentOf x n ≡ pdv (pdvsOf x) n .fragment
+  unfolding pdv fragmentOf dataOf
+  handed = go (ltb n (length (pdvsOf x))) refl
+    where
+      go : (b : Bool) → ltb n (length (pdvsOf x)) ≡ b → fragmentOf x n ≡ pdv (pdvsOf x) n .fragment
+      go true q = fragment-is x n v (ltb-true _ _ q)
+      go false q = rw (v, q, List·getD-eq-default (pdvsOf x) (record { id = 0; control = 0; fragment = [] }) (ltb-false n (length (pdvsOf x)) q))
+
 pub data-trip : (peer : ℕ) (f : Items) → itemsGood f ≡ true → length (dataForm peer f .pdu) - 6 ≤ mostOf peer → DataTrip f (dataForm peer f .pdu)
 unfolding dataForm itemsGood validAs dataOk pduBytes pdvsOf
 data-trip peer f g h =
     let m = most-low peer in
     let l = pdu-long 0x04 (f .items) in
     let k = kind-of-valid (pduBytes 0x04 (f .items)) 4 (pdu-whole 0x04 (f .items) (omega arith)) refl (received (f .items) g) in
-    record {
-      kind = k;
-      body = refl;
-      read = λ n i. data-in (pduBytes 0x04 (f .items)) n k i;
-      fragment = λ n i. fragment-is (pduBytes 0x04 (f .items)) n k i;
-      past = λ n i. data-over (pduBytes 0x04 (f .items)) n k i;
-    }
+    record { kind = k; body = refl; read = read-is (pduBytes 0x04 (f .items)) k; fragment = handed (pduBytes 0x04 (f .items)) k }

@@ -1,17 +1,19 @@
 -- The round trip over the calls themselves: whatever a writer's contract permits it to send, whatever a reader's contract permits it to answer of those bytes is the same fields.
-use Prim.Native.Nat.{ℕ, _≤_, _<_}
+use Prim.Native.Nat.{ℕ, _≤_}
 use mathlib.Core.Path.{_≡_}
-use mathlib.Core.List.{List, []}
+use mathlib.Core.List.{List}
 use lib.ListN.{length, take, drop}
 use contract.Lifetimes.{Lfts}
 use denote.Ref.{now}
 use denote.Triple.Clauses.{AtExit}
 use borrow.Fn.Kinds.{PK, RK, Dens, resT, endedOf, Out}
+use Rattle.numbers.specs.Refusals.{NOT-REFUSED}
+use Rattle.numbers.specs.Kinds.{ASSOCIATE-RQ, ASSOCIATE-AC, ASSOCIATE-RJ, DATA-TF, ABORT}
 use Rattle.octets.specs.Slice.{PartOf}
 use Rattle.pdvs.specs.Data.{Pdv}
 use Rattle.judging.specs.Pdu.{calledOf, callingOf}
 use Rattle.judging.proofs.kind_of as kind-of
-use Rattle.reading.specs.Data.{pdv, startOf}
+use Rattle.reading.specs.Data.{pdv}
 use Rattle.reading.specs.declared.associate.Associate.{Associate}
 use Rattle.reading.proofs.read_request as read-request
 use Rattle.reading.proofs.read_accept as read-accept
@@ -28,7 +30,7 @@ use Rattle.writing.proofs.write_release_response as write-release-response
 use Rattle.writing.proofs.write_abort as write-abort
 use Rattle.writing_associate.proofs.write_request as write-request
 use Rattle.writing_associate.proofs.write_accept as write-accept
-use Rattle.round_trips.specs.Trips.{readOf, pdvRead, pastLast}
+use Rattle.round_trips.specs.Trips.{readOf, pdvRead}
 
 -- a call that a function's contract permits, as the checker reads the contract (`Post` of the function's `Reads`): what was given, the answer, and what was lent as the call leaves it
 pub record Permitted (n : ℕ) (ps : List (PK n)) (r : RK n) (Post : Out n ps r) : Type 0 where
@@ -71,12 +73,9 @@ WriteAbort = Permitted 1 write-abort.Kinds.ps write-abort.Kinds.r write-abort.Re
 abbrev pub KindOf : Type 0
 KindOf = Permitted 1 kind-of.Kinds.ps kind-of.Kinds.r kind-of.Reads.Post
 
--- pdu, sheet
-abbrev pub ReadRequest : Type 0
-ReadRequest = Permitted 2 read-request.Kinds.ps read-request.Kinds.r read-request.Reads.Post
-
-abbrev pub ReadAccept : Type 0
-ReadAccept = Permitted 2 read-accept.Kinds.ps read-accept.Kinds.r read-accept.Reads.Post
+-- pdu, sheet: either reader of an RQ or AC, by its contract
+abbrev pub ReadAssociate : Out 2 read-request.Kinds.ps read-request.Kinds.r → Type 0
+ReadAssociate Post = Permitted 2 read-request.Kinds.ps read-request.Kinds.r Post
 
 -- pdu
 abbrev pub ReadReject : Type 0
@@ -108,34 +107,36 @@ pub record SameFields (application sheet pdu s : List ℕ) (r : Associate) (s′
   pub start : take (length sheet) s′ ≡ sheet
   pub behind : drop (length sheet) s′ ≡ drop (length sheet) s
 
+-- whatever a reader with this contract answers of the bytes, into a sheet that has room
+abbrev pub ReadBack : Out 2 read-request.Kinds.ps read-request.Kinds.r → List ℕ → List ℕ → List ℕ → Type 0
+ReadBack Post application sheet pdu =
+    (c : ReadAssociate Post) → now (c .given .0) ≡ pdu → length sheet ≤ length (now (c .given .1 .0))
+    → SameFields application sheet pdu (now (c .given .1 .0)) (c .answer) (now (c .left .1 .0))
+
 -- as an RQ with the fields f, the titles at their fixed places
 pub record RequestBack (f : RqFields) (pdu : List ℕ) : Type 0 where
-  pub kind : Judged pdu 1
+  pub kind : Judged pdu ASSOCIATE-RQ
   pub called : calledOf pdu ≡ f .called
   pub calling : callingOf pdu ≡ f .calling
-  pub read : (c : ReadRequest) → now (c .given .0) ≡ pdu → length (f .sheet) ≤ length (now (c .given .1 .0))
-      → SameFields (f .application) (f .sheet) pdu (now (c .given .1 .0)) (c .answer) (now (c .left .1 .0))
+  pub read : ReadBack read-request.Reads.Post (f .application) (f .sheet) pdu
 
 -- as an AC with the fields f, the echoed bytes at their fixed place
 pub record AcceptBack (f : AcFields) (pdu : List ℕ) : Type 0 where
-  pub kind : Judged pdu 2
+  pub kind : Judged pdu ASSOCIATE-AC
   pub echoed : take 64 (drop 10 pdu) ≡ f .echoed
-  pub read : (c : ReadAccept) → now (c .given .0) ≡ pdu → length (f .sheet) ≤ length (now (c .given .1 .0))
-      → SameFields (f .application) (f .sheet) pdu (now (c .given .1 .0)) (c .answer) (now (c .left .1 .0))
+  pub read : ReadBack read-accept.Reads.Post (f .application) (f .sheet) pdu
 
 -- as an RJ and an ABORT with the values f
 pub record RejectBack (f : Reject) (pdu : List ℕ) : Type 0 where
-  pub kind : Judged pdu 3
-  pub read : (c : ReadReject) → now (c .given .0) ≡ pdu → c .answer ≡ record { refusal = 0; result = f .result; source = f .source; reason = f .reason }
+  pub kind : Judged pdu ASSOCIATE-RJ
+  pub read : (c : ReadReject) → now (c .given .0) ≡ pdu → c .answer ≡ record { refusal = NOT-REFUSED; result = f .result; source = f .source; reason = f .reason }
 
 pub record AbortBack (f : Abort) (pdu : List ℕ) : Type 0 where
-  pub kind : Judged pdu 7
-  pub read : (c : ReadAbort) → now (c .given .0) ≡ pdu → c .answer ≡ record { refusal = 0; source = f .source; reason = f .reason }
+  pub kind : Judged pdu ABORT
+  pub read : (c : ReadAbort) → now (c .given .0) ≡ pdu → c .answer ≡ record { refusal = NOT-REFUSED; source = f .source; reason = f .reason }
 
--- as a P-DATA-TF of the PDVs ps: each by its number, its fragment the caller's own part; refusal 4 and the empty part past the last
+-- as a P-DATA-TF of the PDVs ps: each by its number, its fragment the caller's own part; past the last refused, with the empty part
 pub record DataBack (ps : List Pdv) (pdu : List ℕ) : Type 0 where
-  pub kind : Judged pdu 4
-  pub read : (c : ReadData) → now (c .given .0) ≡ pdu → c .given .1 .0 < length ps → c .answer ≡ pdvRead ps (c .given .1 .0)
-  pub past : (c : ReadData) → now (c .given .0) ≡ pdu → length ps ≤ c .given .1 .0 → c .answer ≡ pastLast
-  pub own : (c : Fragment) → now (c .given .0) ≡ pdu → c .given .1 .0 < length ps → PartOf (c .given .0) (startOf ps (c .given .1 .0)) (pdv ps (c .given .1 .0) .fragment) (c .answer)
-  pub none : (c : Fragment) → now (c .given .0) ≡ pdu → length ps ≤ c .given .1 .0 → PartOf (c .given .0) 0 [] (c .answer)
+  pub kind : Judged pdu DATA-TF
+  pub read : (c : ReadData) → now (c .given .0) ≡ pdu → c .answer ≡ pdvRead ps (c .given .1 .0)
+  pub own : (c : Fragment) → now (c .given .0) ≡ pdu → PartOf (c .given .0) (pdvRead ps (c .given .1 .0) .start) (pdv ps (c .given .1 .0) .fragment) (c .answer)

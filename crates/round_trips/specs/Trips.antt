@@ -1,9 +1,13 @@
 -- The round trip of each PDU: what is written is a whole valid PDU of its kind, and reading it gives the same fields, a sheet byte for byte. And what may be read may be written again.
-use Prim.Native.Nat.{ℕ, _/_, _≤_, _<_}
+use Prim.Native.Nat.{ℕ, _/_, _≤_}
 use mathlib.Core.Path.{_≡_}
-use mathlib.Core.Bool.{true}
+use mathlib.Core.Bool.{true, cond}
 use mathlib.Core.List.{List}
 use lib.ListN.{length, take, drop}
+use lib.Dec.{ltb}
+use Rattle.numbers.specs.Refusals.{NOT-REFUSED, BAD-CONTENTS}
+use Rattle.numbers.specs.Kinds.{ASSOCIATE-RQ, ASSOCIATE-AC, ASSOCIATE-RJ, DATA-TF, ABORT}
+use Rattle.numbers.specs.Lengths.{HEADER, LONGEST, RECORD}
 use Rattle.pdvs.specs.Data.{Pdv, pdvs}
 use Rattle.judging.specs.Pdu.{calledOf, callingOf, kindOf, acceptable as acceptableOf}
 use Rattle.sheets.specs.Sheet.{contextsIn, answersIn}
@@ -17,59 +21,61 @@ use Rattle.writing.specs.Fields.{RqFields, AcFields, Reject, Items, Abort}
 -- what reading an RQ or AC of ours answers: the application name stands behind the first item's head, the sheet has as many records as the one that was given
 abbrev pub readOf : List ℕ → List ℕ → Associate
 readOf application sheet =
-    record { refusal = 0; version = 1; «application_at» = 78; «application_len» = length application; maximum = 16384; records = length sheet / 132 }
+    record { refusal = NOT-REFUSED; version = 1; «application_at» = 78; «application_len» = length application; maximum = LONGEST; records = length sheet / RECORD }
+
+-- what an RQ and an AC of ours have in common: the application name, where it stands, and what reading answers and fills where the sheet has room
+pub record AssociateTrip (kind : ℕ) (application sheet pdu : List ℕ) : Type 0 where
+  pub name : applicationOf pdu ≡ application
+  pub stands : take (length application) (drop 78 pdu) ≡ application
+  pub read : (room : ℕ) → length sheet ≤ room → associateOf kind pdu room ≡ readOf application sheet
+  pub filled : (room : ℕ) → length sheet ≤ room → filling kind pdu room ≡ sheet
 
 -- an RQ with the fields f
 pub record RqTrip (f : RqFields) (pdu : List ℕ) : Type 0 where
-  pub kind : kindOf pdu ≡ 1
+  pub kind : kindOf pdu ≡ ASSOCIATE-RQ
   pub acceptable : acceptableOf pdu ≡ true
   pub called : calledOf pdu ≡ f .called
   pub calling : callingOf pdu ≡ f .calling
-  pub application : applicationOf pdu ≡ f .application
-  pub stands : take (length (f .application)) (drop 78 pdu) ≡ f .application
   pub contexts : proposed pdu ≡ contextsIn (f .sheet)
-  pub read : (room : ℕ) → length (f .sheet) ≤ room → associateOf 1 pdu room ≡ readOf (f .application) (f .sheet)
-  pub sheet : (room : ℕ) → length (f .sheet) ≤ room → filling 1 pdu room ≡ f .sheet
+  pub fields : AssociateTrip ASSOCIATE-RQ (f .application) (f .sheet) pdu
 
 -- an AC with the fields f
 pub record AcTrip (f : AcFields) (pdu : List ℕ) : Type 0 where
-  pub kind : kindOf pdu ≡ 2
+  pub kind : kindOf pdu ≡ ASSOCIATE-AC
   pub echoed : take 64 (drop 10 pdu) ≡ f .echoed
-  pub application : applicationOf pdu ≡ f .application
-  pub stands : take (length (f .application)) (drop 78 pdu) ≡ f .application
   pub answers : answered pdu ≡ answersIn (f .sheet)
-  pub read : (room : ℕ) → length (f .sheet) ≤ room → associateOf 2 pdu room ≡ readOf (f .application) (f .sheet)
-  pub sheet : (room : ℕ) → length (f .sheet) ≤ room → filling 2 pdu room ≡ f .sheet
+  pub fields : AssociateTrip ASSOCIATE-AC (f .application) (f .sheet) pdu
 
 -- an RJ and an ABORT with the values f
 pub record RejectTrip (f : Reject) (pdu : List ℕ) : Type 0 where
-  pub kind : kindOf pdu ≡ 3
-  pub read : values.rejectIn pdu ≡ record { refusal = 0; result = f .result; source = f .source; reason = f .reason }
+  pub kind : kindOf pdu ≡ ASSOCIATE-RJ
+  pub read : values.rejectIn pdu ≡ record { refusal = NOT-REFUSED; result = f .result; source = f .source; reason = f .reason }
 
 pub record AbortTrip (f : Abort) (pdu : List ℕ) : Type 0 where
-  pub kind : kindOf pdu ≡ 7
-  pub read : values.abortIn pdu ≡ record { refusal = 0; source = f .source; reason = f .reason }
-
--- what reading PDV n of these answers
-abbrev pub pdvRead : List Pdv → ℕ → DataRead
-pdvRead ps n = record { refusal = 0; id = pdv ps n .id; control = pdv ps n .control; start = startOf ps n; len = length (pdv ps n .fragment) }
+  pub kind : kindOf pdu ≡ ABORT
+  pub read : values.abortIn pdu ≡ record { refusal = NOT-REFUSED; source = f .source; reason = f .reason }
 
 -- "A number past the last is refused with 4."
 abbrev pub pastLast : DataRead
-pastLast = record { refusal = 4; id = 0; control = 0; start = 0; len = 0 }
+pastLast = record { refusal = BAD-CONTENTS; id = 0; control = 0; start = 0; len = 0 }
 
--- a P-DATA-TF of the items f: by its number each of their PDVs is read, and its fragment handed back
+-- what reading PDV n of these answers
+unfoldable pub pdvRead : List Pdv → ℕ → DataRead
+pdvRead ps n =
+    cond (ltb n (length ps)) (record { refusal = NOT-REFUSED; id = pdv ps n .id; control = pdv ps n .control; start = startOf ps n; len = length (pdv ps n .fragment) })
+    pastLast
+
+-- a P-DATA-TF of the items f: by its number each of their PDVs is read, and its fragment handed back; past the last the empty one is
 pub record DataTrip (f : Items) (pdu : List ℕ) : Type 0 where
-  pub kind : kindOf pdu ≡ 4
-  pub body : drop 6 pdu ≡ f .items
-  pub read : (n : ℕ) → n < length (pdvs (f .items)) → dataOf pdu n ≡ pdvRead (pdvs (f .items)) n
-  pub fragment : (n : ℕ) → n < length (pdvs (f .items)) → fragmentOf pdu n ≡ pdv (pdvs (f .items)) n .fragment
-  pub past : (n : ℕ) → length (pdvs (f .items)) ≤ n → dataOf pdu n ≡ pastLast
+  pub kind : kindOf pdu ≡ DATA-TF
+  pub body : drop HEADER pdu ≡ f .items
+  pub read : (n : ℕ) → dataOf pdu n ≡ pdvRead (pdvs (f .items)) n
+  pub fragment : (n : ℕ) → fragmentOf pdu n ≡ pdv (pdvs (f .items)) n .fragment
 
 -- ---- and back: the fields that are read from a PDU
 abbrev pub rqRead : List ℕ → RqFields
-rqRead pdu = record { called = calledOf pdu; calling = callingOf pdu; application = applicationOf pdu; sheet = sheetIn 1 pdu }
+rqRead pdu = record { called = calledOf pdu; calling = callingOf pdu; application = applicationOf pdu; sheet = sheetIn ASSOCIATE-RQ pdu }
 
 -- of an AC the echoed bytes stay in the PDU
 abbrev pub acRead : List ℕ → AcFields
-acRead pdu = record { echoed = take 64 (drop 10 pdu); application = applicationOf pdu; sheet = sheetIn 2 pdu }
+acRead pdu = record { echoed = take 64 (drop 10 pdu); application = applicationOf pdu; sheet = sheetIn ASSOCIATE-AC pdu }
