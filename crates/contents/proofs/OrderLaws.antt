@@ -3,89 +3,163 @@
 use Prim.Native.Nat.{ℕ, zero, suc}
 use native.Mathlib.Omega.{arith}
 use mathlib.Core.Bool.{Bool, true, false, _&&_, _||_, cond, and-false, or-true}
-use mathlib.Core.List.{List, [], _∷_, _++_}
+use mathlib.Core.List.{List, [], _∷_, _++_, append-nil}
 use mathlib.Core.Path.{_≡_, refl, sym, ap, _∙_}
 use lib.ListN.{length, replicate}
 use lib.Dec.{leb, eqb}
 use borrow.Author.Tests.{le-leb, eqb-true, eqb-false, eq-eqb, ne-eqb}
-use Rattle.laws.specs.Lists.{among, sameBytes}
-use Rattle.laws.proofs.Booleans.{held}
+use Rattle.laws.specs.Lists.{all, among, sameBytes}
+use Rattle.laws.proofs.Booleans.{held, left-of, right-of, both-of}
 use Rattle.laws.proofs.Same.{same-equal}
 use Rattle.names.specs.Name.{nameOk}
 use Rattle.items.specs.Items.{Walk, filled, bodies, types, only, goodBodies, holds}
-use Rattle.items.specs.Private.Rules.{Rule, keeps}
+use Rattle.items.specs.Private.Rules.{keeps}
 use Rattle.items.proofs.RuleLaws.{stateAfter, keeps-is}
 use Rattle.items.proofs.HoldLaws.{times, times-types, times-only, times-same}
 use Rattle.contents.specs.Contents.{topKnown, contextKnown, named, contextOrder, subsOk, good50H, contextGood, topGood, topOrder, topOk}
-use Rattle.contents.specs.Private.Order.{wrong, subGood, subNext, subRule, topNext, topRule}
+use Rattle.contents.specs.Private.Order.{wrong, next, inOrder, subGood, subRule, topRule}
 
--- ---- none leads on from an item out of order
-stuck : (R : Rule) → ((t : ℕ) → R .next 9 t ≡ 9) → (ts : List ℕ) → stateAfter R 9 ts ≡ 9
-unfolding stateAfter
-stuck R n [] = refl
-stuck R n (t ∷ ts) = rw (n t, stuck R n ts)
-
-some : (n : ℕ) → leb 1 (suc n) ≡ true
-some n = le-leb 1 (suc n) (omega arith)
+over : (b : Bool) → (b ≡ true → ⊥) → b ≡ false
+over true n = absurd (n refl)
+over false n = refl
 
 -- the order told apart, and put as the definitions have it
 gather : (n f s g : Bool) → (f && ((n && s) && g)) ≡ (n && (f && (s && g)))
 gather true f s g = refl
 gather false f s g = and-false f
 
--- ---- in a 20H: the known types
-data Subs : List ℕ → Type 0 where
-  none : Subs []
-  abstr : {ts : List ℕ} → Subs ts → Subs (0x30 ∷ ts)
-  transfer : {ts : List ℕ} → Subs ts → Subs (0x40 ∷ ts)
-
-subs : (xs : List ℕ) → Subs (only contextKnown xs)
-unfolding only among
-subs [] = none
-subs (t ∷ xs) = go (eqb t 0x30) refl (eqb t 0x40) refl (subs xs)
+-- the known types are known
+only-known : (known : List ℕ) (p : ℕ → Bool) → ((t : ℕ) → among t known ≡ true → p t ≡ true) → (ts : List ℕ) → all p (only known ts) ≡ true
+unfolding only
+only-known known p f [] = refl
+only-known known p f (t ∷ ts) = go (among t known) refl (only-known known p f ts)
   where
-    go : (p : Bool) → eqb t 0x30 ≡ p → (q : Bool) → eqb t 0x40 ≡ q → Subs (only contextKnown xs) → Subs (cond (p || (q || false)) (t ∷ only contextKnown xs) (only contextKnown xs))
-    go true e q f s = rw (eqb-true t 0x30 e) (abstr s)
-    go false e true f s = rw (eqb-true t 0x40 f) (transfer s)
-    go false e false f s = s
+    go : (d : Bool) → among t known ≡ d → all p (only known ts) ≡ true → all p (cond d (t ∷ only known ts) (only known ts)) ≡ true
+    go true q r = both-of _ _ (f t q) r
+    go false q r = r
 
-nine-sub : (t : ℕ) → subNext 9 t ≡ 9
-unfolding subNext
-nine-sub t = go (eqb t 0x30) (eqb t 0x40)
+-- ---- as many m as there are, and then e
+module _ (m : ℕ) (e : List ℕ) where
+  abbrev manyThen : List ℕ → Bool
+  manyThen ts = sameBytes ts (replicate (times m ts) m ++ e)
+
+  many-more : (ts : List ℕ) → manyThen (m ∷ ts) ≡ manyThen ts
+  unfolding times
+  many-more ts = rw (eq-eqb m m refl, eq-eqb m m refl)
+
+  many-some : (ts : List ℕ) → (leb 1 (times m (m ∷ ts)) && manyThen (m ∷ ts)) ≡ manyThen ts
+  unfolding times
+  many-some ts = rw (eq-eqb m m refl, eq-eqb m m refl, le-leb 1 (suc (times m ts)) (omega arith))
+
+  module _ (t : ℕ) (ts : List ℕ) (h : eqb t m ≡ false) where
+    many-end : times m e ≡ 0 → manyThen (t ∷ ts) ≡ sameBytes (t ∷ ts) e
+    unfolding times
+    many-end z = rw h (go (times m ts) refl)
+      where
+        go : (n : ℕ) → times m ts ≡ n → sameBytes (t ∷ ts) (replicate n m ++ e) ≡ sameBytes (t ∷ ts) e
+        go zero q = refl
+        go (suc n) q =
+            rw h (sym (over (sameBytes (t ∷ ts) e) (λ s.
+              let w : times m (t ∷ ts) ≡ 0 = ap (times m) (same-equal (t ∷ ts) e (held (sameBytes (t ∷ ts) e) s)) ∙ z in
+              let v : times m (t ∷ ts) ≡ suc n = rw h q in
+              omega arith)))
+
+    many-lost : (leb 1 (times m (t ∷ ts)) && manyThen (t ∷ ts)) ≡ false
+    unfolding times
+    many-lost = rw h (go (times m ts))
+      where
+        go : (n : ℕ) → (leb 1 n && sameBytes (t ∷ ts) (replicate n m ++ e)) ≡ false
+        go zero = refl
+        go (suc n) = rw h (and-false (leb 1 (suc n)))
+
+-- ---- the states
+nine : (b : Bool) → cond b wrong wrong ≡ wrong
+nine true = refl
+nine false = refl
+
+module _ (good : ℕ → List ℕ → Bool) (a m z end : ℕ) where
+  abbrev known : ℕ → Bool
+  known t = eqb t a || (eqb t m || eqb t z)
+
+  next-known : (st t : ℕ) → known t ≡ true
+      → next a m z st t ≡ cond (eqb t a) (cond (eqb st 0) 1 wrong) (cond (eqb t m) (cond (eqb st 1) 2 (cond (eqb st 2) 2 wrong)) (cond (eqb st 2) 3 wrong))
+  unfolding next
+  next-known st t = go (eqb t a) (eqb t m) (eqb t z) (cond (eqb st 0) 1 wrong) (cond (eqb st 1) 2 (cond (eqb st 2) 2 wrong)) (cond (eqb st 2) 3 wrong)
+    where
+      go : (p q r : Bool) (x y w : ℕ) → (p || (q || r)) ≡ true → cond p x (cond q y (cond r w st)) ≡ cond p x (cond q y w)
+      go true q r x y w h = refl
+      go false true r x y w h = refl
+      go false false true x y w h = refl
+      go false false false x y w h = absurd (held false h)
+
+  next-skips : (st t : ℕ) → known t ≡ false → next a m z st t ≡ st
+  unfolding next
+  next-skips st t = go (eqb t a) (eqb t m) (eqb t z) (cond (eqb st 0) 1 wrong) (cond (eqb st 1) 2 (cond (eqb st 2) 2 wrong)) (cond (eqb st 2) 3 wrong)
+    where
+      go : (p q r : Bool) (x y w : ℕ) → (p || (q || r)) ≡ false → cond p x (cond q y (cond r w st)) ≡ st
+      go true q r x y w h = absurd (held false (sym h))
+      go false true r x y w h = absurd (held false (sym h))
+      go false false true x y w h = absurd (held false (sym h))
+      go false false false x y w h = refl
+
+  -- none leads on from an item out of order
+  stuck : (ts : List ℕ) → all known ts ≡ true → stateAfter (inOrder good a m z end) wrong ts ≡ wrong
+  unfolding stateAfter
+  stuck [] k = refl
+  stuck (t ∷ ts) k = rw (next-known wrong t (left-of _ _ k), nine (eqb t m), nine (eqb t a)) (stuck ts (right-of (known t) _ k))
+
+  module _ (e : List ℕ) (no : eqb wrong end ≡ false) where
+    lost : (ts : List ℕ) → all known ts ≡ true → eqb (stateAfter (inOrder good a m z end) wrong ts) end ≡ false
+    lost ts k = rw (stuck ts k) no
+
+    module _ (am : eqb a m ≡ false) (ma : eqb m a ≡ false) (n0 : eqb 0 end ≡ false) (n1 : eqb 1 end ≡ false) (n2 : eqb 2 end ≡ sameBytes [] e) (ze : times m e ≡ 0)
+        (tail : (t : ℕ) (ts : List ℕ) → known t ≡ true → all known ts ≡ true → eqb t m ≡ false → eqb (stateAfter (inOrder good a m z end) (cond (eqb t a) wrong 3) ts) end ≡ sameBytes (t ∷ ts) e) where
+      from-2 : (ts : List ℕ) → all known ts ≡ true → eqb (stateAfter (inOrder good a m z end) 2 ts) end ≡ manyThen m e ts
+      unfolding stateAfter times
+      from-2 [] k = n2
+      from-2 (t ∷ ts) k = rw (next-known 2 t (left-of _ _ k)) (go (eqb t m) refl (from-2 ts (right-of (known t) _ k)))
+        where
+          go : (d : Bool) → eqb t m ≡ d → eqb (stateAfter (inOrder good a m z end) 2 ts) end ≡ manyThen m e ts
+              → eqb (stateAfter (inOrder good a m z end) (cond (eqb t a) wrong (cond d 2 3)) ts) end ≡ manyThen m e (t ∷ ts)
+          go true q ih = rw (eqb-true t m q, ma) (ih ∙ sym (many-more m e ts))
+          go false q ih = tail t ts (left-of _ _ k) (right-of (known t) _ k) q ∙ sym (many-end m e t ts q ze)
+
+      from-1 : (ts : List ℕ) → all known ts ≡ true → eqb (stateAfter (inOrder good a m z end) 1 ts) end ≡ (leb 1 (times m ts) && manyThen m e ts)
+      unfolding stateAfter times
+      from-1 [] k = n1
+      from-1 (t ∷ ts) k = rw (next-known 1 t (left-of _ _ k)) (go (eqb t m) refl)
+        where
+          go : (d : Bool) → eqb t m ≡ d → eqb (stateAfter (inOrder good a m z end) (cond (eqb t a) wrong (cond d 2 wrong)) ts) end ≡ (leb 1 (times m (t ∷ ts)) && manyThen m e (t ∷ ts))
+          go true q = rw (eqb-true t m q, ma) (from-2 ts (right-of (known t) _ k) ∙ sym (many-some m e ts))
+          go false q = rw (nine (eqb t a)) (lost ts (right-of (known t) _ k) ∙ sym (many-lost m e t ts q))
+
+      from-0 : (ts : List ℕ) → all known ts ≡ true → eqb (stateAfter (inOrder good a m z end) 0 ts) end ≡ (leb 1 (times m ts) && sameBytes ts (a ∷ (replicate (times m ts) m ++ e)))
+      unfolding stateAfter times
+      from-0 [] k = n0
+      from-0 (t ∷ ts) k = rw (next-known 0 t (left-of _ _ k)) (go (eqb t a) refl)
+        where
+          go : (d : Bool) → eqb t a ≡ d
+              → eqb (stateAfter (inOrder good a m z end) (cond d 1 (cond (eqb t m) wrong wrong)) ts) end ≡ (leb 1 (times m (t ∷ ts)) && (d && sameBytes ts (replicate (times m (t ∷ ts)) m ++ e)))
+          go true q = rw (eqb-true t a q, am) (from-1 ts (right-of (known t) _ k))
+          go false q = rw (nine (eqb t m)) (lost ts (right-of (known t) _ k) ∙ sym (and-false (leb 1 (times m (t ∷ ts)))))
+
+-- ---- in a 20H
+sub-known : (t : ℕ) → among t contextKnown ≡ known subGood 0x30 0x40 0x40 2 t
+unfolding among
+sub-known t = go (eqb t 0x30) (eqb t 0x40)
   where
-    go : (p q : Bool) → _≡_ {A = ℕ} (cond p 9 (cond q 9 9)) 9
+    go : (p q : Bool) → (p || (q || false)) ≡ (p || (q || q))
     go true q = refl
     go false true = refl
     go false false = refl
 
-sub-9 : (ts : List ℕ) → eqb (stateAfter subRule 9 ts) 2 ≡ false
-sub-9 ts = rw (stuck subRule nine-sub ts)
-
-sub-2 : {ts : List ℕ} → Subs ts → eqb (stateAfter subRule 2 ts) 2 ≡ sameBytes ts (replicate (times 0x40 ts) 0x40)
-unfolding stateAfter subNext times
-sub-2 none = refl
-sub-2 (abstr {ts} s) = sub-9 ts ∙ go (times 0x40 ts)
+sub-tail : (t : ℕ) (ts : List ℕ) → known subGood 0x30 0x40 0x40 2 t ≡ true → all (known subGood 0x30 0x40 0x40 2) ts ≡ true → eqb t 0x40 ≡ false
+    → eqb (stateAfter subRule (cond (eqb t 0x30) wrong 3) ts) 2 ≡ false
+sub-tail t ts h k q = go (eqb t 0x30) h
   where
-    go : (n : ℕ) → false ≡ sameBytes (0x30 ∷ ts) (replicate n 0x40)
-    go zero = refl
-    go (suc n) = refl
-sub-2 (transfer s) = sub-2 s
-
-sub-1 : {ts : List ℕ} → Subs ts → eqb (stateAfter subRule 1 ts) 2 ≡ (leb 1 (times 0x40 ts) && sameBytes ts (replicate (times 0x40 ts) 0x40))
-unfolding stateAfter subNext times
-sub-1 none = refl
-sub-1 (abstr {ts} s) = sub-9 ts ∙ go (times 0x40 ts)
-  where
-    go : (n : ℕ) → false ≡ (leb 1 n && sameBytes (0x30 ∷ ts) (replicate n 0x40))
-    go zero = refl
-    go (suc n) = sym (and-false (leb 1 (suc n)))
-sub-1 (transfer {ts} s) = rw (some (times 0x40 ts)) (sub-2 s)
-
-sub-0 : {ts : List ℕ} → Subs ts → eqb (stateAfter subRule 0 ts) 2 ≡ (leb 1 (times 0x40 ts) && sameBytes ts (contextOrder (times 0x40 ts)))
-unfolding stateAfter subNext times
-sub-0 none = refl
-sub-0 (abstr s) = sub-1 s
-sub-0 (transfer {ts} s) = sub-9 ts ∙ sym (and-false (leb 1 (suc (times 0x40 ts))))
+    go : (p : Bool) → (p || (eqb t 0x40 || eqb t 0x40)) ≡ true → eqb (stateAfter subRule (cond p wrong 3) ts) 2 ≡ false
+    go true g = lost subGood 0x30 0x40 0x40 2 [] refl ts k
+    go false g = absurd (held false (simp q at g))
 
 sub-bodies : (t : ℕ) (b : List ℕ) → subGood t b ≡ cond (among t contextKnown) (nameOk b) true
 unfolding subGood among
@@ -96,118 +170,48 @@ sub-bodies t b = go (eqb t 0x30) (eqb t 0x40)
     go false true = refl
     go false false = refl
 
-sub-skips : (st t : ℕ) → among t contextKnown ≡ false → subNext st t ≡ st
-unfolding subNext among
-sub-skips st t = go (eqb t 0x30) (eqb t 0x40)
-  where
-    go : (p q : Bool) → (p || (q || false)) ≡ false → cond p (cond (eqb st 0) 1 wrong) (cond q (cond (eqb st 1) 2 (cond (eqb st 2) 2 wrong)) st) ≡ st
-    go true q h = absurd (held false (sym h))
-    go false true h = absurd (held false (sym h))
-    go false false h = refl
-
 pub sub-is : (w : Walk) → keeps subRule 0 w ≡ subsOk w
-unfolding subsOk holds among
+unfolding subsOk holds among times
 sub-is w =
     let n : times 0x40 (only contextKnown (types w)) ≡ length (bodies 0x40 w) = times-only 0x40 contextKnown (types w) refl ∙ times-types 0x40 w in
-    keeps-is subRule contextKnown named sub-bodies sub-skips 0 w
-    ∙ (rw (sub-0 (subs (types w)), n) (gather (leb 1 (length (bodies 0x40 w))) (filled w) (sameBytes (only contextKnown (types w)) (contextOrder (length (bodies 0x40 w)))) (goodBodies contextKnown named w)))
+    let s = from-0 subGood 0x30 0x40 0x40 2 [] refl refl refl refl refl refl refl sub-tail (only contextKnown (types w))
+    (only-known contextKnown (known subGood 0x30 0x40 0x40 2) (λ t h. sym (sub-known t) ∙ h) (types w)) in
+    keeps-is subRule contextKnown named sub-bodies (λ st t h. next-skips subGood 0x30 0x40 0x40 2 st t (sym (sub-known t) ∙ h)) 0 w
+    ∙ (rw (s, n, append-nil) (gather (leb 1 (length (bodies 0x40 w))) (filled w) (sameBytes (only contextKnown (types w)) (contextOrder (length (bodies 0x40 w)))) (goodBodies contextKnown named w)))
 
--- ---- in an RQ or an AC: the known types, with k for the type of a context
-data Tops (k : ℕ) : List ℕ → Type 0 where
-  none : Tops k []
-  application : {ts : List ℕ} → Tops k ts → Tops k (0x10 ∷ ts)
-  context : {ts : List ℕ} → Tops k ts → Tops k (k ∷ ts)
-  user : {ts : List ℕ} → Tops k ts → Tops k (0x50 ∷ ts)
+-- ---- in an RQ or an AC, with k for the type of a context
+module _ (k : ℕ) where
+  abbrev topType : ℕ → Bool
+  topType = known (topGood k) 0x10 k 0x50 3
 
-tops : (k : ℕ) (xs : List ℕ) → Tops k (only (topKnown k) xs)
-unfolding only among
-tops k [] = none
-tops k (t ∷ xs) = go (eqb t 0x10) refl (eqb t k) refl (eqb t 0x50) refl (tops k xs)
-  where
-    go : (p : Bool) → eqb t 0x10 ≡ p → (q : Bool) → eqb t k ≡ q → (r : Bool) → eqb t 0x50 ≡ r → Tops k (only (topKnown k) xs)
-        → Tops k (cond (p || (q || (r || false))) (t ∷ only (topKnown k) xs) (only (topKnown k) xs))
-    go true e q f r g s = rw (eqb-true t 0x10 e) (application s)
-    go false e true f r g s = rw (eqb-true t k f) (context s)
-    go false e false f true g s = rw (eqb-true t 0x50 g) (user s)
-    go false e false f false g s = s
-
-nine-top : (k t : ℕ) → topNext k 9 t ≡ 9
-unfolding topNext
-nine-top k t = go (eqb t 0x10) (eqb t k) (eqb t 0x50)
-  where
-    go : (p q r : Bool) → _≡_ {A = ℕ} (cond p 9 (cond q 9 (cond r 9 9))) 9
-    go true q r = refl
-    go false true r = refl
-    go false false true = refl
-    go false false false = refl
-
-top-9 : (k : ℕ) (ts : List ℕ) → eqb (stateAfter (topRule k) 9 ts) 3 ≡ false
-top-9 k ts = rw (stuck (topRule k) (nine-top k) ts)
-
--- a type of its own
-module _ (k : ℕ) (a : eqb 0x10 k ≡ false) (b : eqb k 0x10 ≡ false) (c : eqb 0x50 k ≡ false) where
-  next-k : (st : ℕ) → topNext k st k ≡ cond (eqb st 1) 2 (cond (eqb st 2) 2 wrong)
-  unfolding topNext
-  next-k st = rw (b, eq-eqb k k refl)
-
-  next-50 : (st : ℕ) → topNext k st 0x50 ≡ cond (eqb st 2) 3 wrong
-  unfolding topNext
-  next-50 st = rw c
-
-  top-3 : {ts : List ℕ} → Tops k ts → eqb (stateAfter (topRule k) 3 ts) 3 ≡ sameBytes ts []
-  unfolding stateAfter topNext
-  top-3 none = refl
-  top-3 (application {ts} s) = top-9 k ts
-  top-3 (context {ts} s) = ap (λ (n : ℕ). eqb (stateAfter (topRule k) n ts) 3) (next-k 3) ∙ top-9 k ts
-  top-3 (user {ts} s) = ap (λ (n : ℕ). eqb (stateAfter (topRule k) n ts) 3) (next-50 3) ∙ top-9 k ts
-
-  -- where the contexts end: at an item of another type, and at the 50H
-  other : (ts : List ℕ) (n : ℕ) → sameBytes (0x10 ∷ ts) (replicate n k ++ (0x50 ∷ [])) ≡ false
-  other ts zero = refl
-  other ts (suc n) = rw a
-
-  early : (ts : List ℕ) (n : ℕ) → sameBytes (0x50 ∷ ts) (replicate (suc n) k ++ (0x50 ∷ [])) ≡ false
-  early ts n = rw c
-
-  ends : (ts : List ℕ) → sameBytes ts [] ≡ sameBytes (0x50 ∷ ts) (replicate (times k ts) k ++ (0x50 ∷ []))
-  unfolding times
-  ends [] = refl
-  ends (t ∷ ts) = go (times k (t ∷ ts))
+  top-known : (t : ℕ) → among t (topKnown k) ≡ topType t
+  unfolding among
+  top-known t = go (eqb t 0x10) (eqb t k) (eqb t 0x50)
     where
-      go : (n : ℕ) → false ≡ sameBytes (0x50 ∷ t ∷ ts) (replicate n k ++ (0x50 ∷ []))
-      go zero = refl
-      go (suc n) = sym (early (t ∷ ts) n)
+      go : (p q r : Bool) → (p || (q || (r || false))) ≡ (p || (q || r))
+      go true q r = refl
+      go false true r = refl
+      go false false true = refl
+      go false false false = refl
 
-  top-2 : {ts : List ℕ} → Tops k ts → eqb (stateAfter (topRule k) 2 ts) 3 ≡ sameBytes ts (replicate (times k ts) k ++ (0x50 ∷ []))
-  unfolding stateAfter topNext times
-  top-2 none = refl
-  top-2 (application {ts} s) = rw a (top-9 k ts ∙ sym (other ts (times k ts)))
-  top-2 (context s) = rw (b, eq-eqb k k refl, eq-eqb k k refl) (top-2 s)
-  top-2 (user {ts} s) = rw c (top-3 s ∙ ends ts)
+  top-lost : (ts : List ℕ) → all topType ts ≡ true → eqb (stateAfter (topRule k) wrong ts) 3 ≡ false
+  top-lost = lost (topGood k) 0x10 k 0x50 3 [] refl
 
-  top-1 : {ts : List ℕ} → Tops k ts → eqb (stateAfter (topRule k) 1 ts) 3 ≡ (leb 1 (times k ts) && sameBytes ts (replicate (times k ts) k ++ (0x50 ∷ [])))
-  unfolding stateAfter topNext times
-  top-1 none = refl
-  top-1 (application {ts} s) = rw (a, top-9 k ts, other ts (times k ts)) (sym (and-false (leb 1 (times k ts))))
-  top-1 (context {ts} s) = rw (b, eq-eqb k k refl, eq-eqb k k refl, some (times k ts)) (top-2 s)
-  top-1 (user {ts} s) = rw (c, top-9 k ts) (go (times k ts))
+  from-3 : (ts : List ℕ) → all topType ts ≡ true → eqb (stateAfter (topRule k) 3 ts) 3 ≡ sameBytes ts []
+  unfolding stateAfter
+  from-3 [] h = refl
+  from-3 (t ∷ ts) h = rw (next-known (topGood k) 0x10 k 0x50 3 3 t (left-of _ _ h), nine (eqb t k), nine (eqb t 0x10)) (top-lost ts (right-of (topType t) _ h))
+
+  top-tail : (t : ℕ) (ts : List ℕ) → topType t ≡ true → all topType ts ≡ true → eqb t k ≡ false → eqb (stateAfter (topRule k) (cond (eqb t 0x10) wrong 3) ts) 3 ≡ sameBytes (t ∷ ts) (0x50 ∷ [])
+  top-tail t ts h r q = go (eqb t 0x10) refl (eqb t 0x50) refl h
     where
-      go : (n : ℕ) → false ≡ (leb 1 n && sameBytes (0x50 ∷ ts) (replicate n k ++ (0x50 ∷ [])))
-      go zero = refl
-      go (suc n) = rw (early ts n) (sym (and-false (leb 1 (suc n))))
-
-  top-0 : {ts : List ℕ} → Tops k ts → eqb (stateAfter (topRule k) 0 ts) 3 ≡ (leb 1 (times k ts) && sameBytes ts (topOrder k (times k ts)))
-  unfolding stateAfter topNext times
-  top-0 none = refl
-  top-0 (application s) = rw a (top-1 s)
-  top-0 (context {ts} s) = rw (b, eq-eqb k k refl, top-9 k ts) (sym (and-false (leb 1 (suc (times k ts)))))
-  top-0 (user {ts} s) = rw (c, top-9 k ts) (sym (and-false (leb 1 (times k ts))))
+      go : (p : Bool) → eqb t 0x10 ≡ p → (u : Bool) → eqb t 0x50 ≡ u → (p || (eqb t k || u)) ≡ true → eqb (stateAfter (topRule k) (cond p wrong 3) ts) 3 ≡ (u && sameBytes ts [])
+      go true e true f g = let x = eqb-true t 0x10 e in let y = eqb-true t 0x50 f in absurd (omega arith)
+      go true e false f g = top-lost ts r
+      go false e true f g = from-3 ts r
+      go false e false f g = absurd (held false (simp q at g))
 
 -- ---- k is 10H or 50H: the order wants one more of it than there are, and the loop does not come to 3
-over : (b : Bool) → (b ≡ true → ⊥) → b ≡ false
-over true n = absurd (n refl)
-over false n = refl
-
 few : (k : ℕ) (ts : List ℕ) → (times k (topOrder k (times k ts)) ≡ times k ts → ⊥) → sameBytes ts (topOrder k (times k ts)) ≡ false
 few k ts n =
     let o : List ℕ = topOrder k (times k ts) in
@@ -222,54 +226,68 @@ unfolding times
 few-50 ts = few 0x50 ts (λ e. let n = times-same 0x50 (times 0x50 ts) (0x50 ∷ []) in omega arith)
 
 -- from 1 no 10H leads on
-tens-1 : {ts : List ℕ} → Tops 0x10 ts → eqb (stateAfter (topRule 0x10) 1 ts) 3 ≡ false
-unfolding stateAfter topNext
-tens-1 none = refl
-tens-1 (application {ts} s) = top-9 0x10 ts
-tens-1 (context {ts} s) = top-9 0x10 ts
-tens-1 (user {ts} s) = top-9 0x10 ts
+tens-1 : (ts : List ℕ) → all (topType 0x10) ts ≡ true → eqb (stateAfter (topRule 0x10) 1 ts) 3 ≡ false
+unfolding stateAfter
+tens-1 [] h = refl
+tens-1 (t ∷ ts) h = rw (next-known (topGood 0x10) 0x10 0x10 0x50 3 1 t (left-of _ _ h)) (go (eqb t 0x10) (top-lost 0x10 ts (right-of (topType 0x10 t) _ h)))
+  where
+    go : (p : Bool) → eqb (stateAfter (topRule 0x10) wrong ts) 3 ≡ false → eqb (stateAfter (topRule 0x10) (cond p wrong (cond p 2 wrong)) ts) 3 ≡ false
+    go true l = l
+    go false l = l
 
-tens : {ts : List ℕ} → Tops 0x10 ts → eqb (stateAfter (topRule 0x10) 0 ts) 3 ≡ false
-unfolding stateAfter topNext
-tens none = refl
-tens (application s) = tens-1 s
-tens (context s) = tens-1 s
-tens (user {ts} s) = top-9 0x10 ts
+tens : (ts : List ℕ) → all (topType 0x10) ts ≡ true → eqb (stateAfter (topRule 0x10) 0 ts) 3 ≡ false
+unfolding stateAfter
+tens [] h = refl
+tens (t ∷ ts) h = rw (next-known (topGood 0x10) 0x10 0x10 0x50 3 0 t (left-of _ _ h)) (go (eqb t 0x10) (right-of (topType 0x10 t) _ h))
+  where
+    go : (p : Bool) → all (topType 0x10) ts ≡ true → eqb (stateAfter (topRule 0x10) (cond p 1 (cond p wrong wrong)) ts) 3 ≡ false
+    go true r = tens-1 ts r
+    go false r = top-lost 0x10 ts r
 
 -- no 50H leads to 3
-fifties-2 : {ts : List ℕ} → Tops 0x50 ts → eqb (stateAfter (topRule 0x50) 2 ts) 3 ≡ false
-unfolding stateAfter topNext
-fifties-2 none = refl
-fifties-2 (application {ts} s) = top-9 0x50 ts
-fifties-2 (context s) = fifties-2 s
-fifties-2 (user s) = fifties-2 s
+fifties-2 : (ts : List ℕ) → all (topType 0x50) ts ≡ true → eqb (stateAfter (topRule 0x50) 2 ts) 3 ≡ false
+unfolding stateAfter
+fifties-2 [] h = refl
+fifties-2 (t ∷ ts) h =
+    rw (next-known (topGood 0x50) 0x10 0x50 0x50 3 2 t (left-of _ _ h)) (go (eqb t 0x10) (eqb t 0x50) (left-of _ (all (topType 0x50) ts) h) (fifties-2 ts (right-of (topType 0x50 t) _ h)))
+  where
+    go : (p q : Bool) → (p || (q || q)) ≡ true → eqb (stateAfter (topRule 0x50) 2 ts) 3 ≡ false → eqb (stateAfter (topRule 0x50) (cond p wrong (cond q 2 3)) ts) 3 ≡ false
+    go true q g r = top-lost 0x50 ts (right-of (topType 0x50 t) _ h)
+    go false true g r = r
+    go false false g r = absurd (held false g)
 
-fifties-1 : {ts : List ℕ} → Tops 0x50 ts → eqb (stateAfter (topRule 0x50) 1 ts) 3 ≡ false
-unfolding stateAfter topNext
-fifties-1 none = refl
-fifties-1 (application {ts} s) = top-9 0x50 ts
-fifties-1 (context s) = fifties-2 s
-fifties-1 (user s) = fifties-2 s
+fifties-1 : (ts : List ℕ) → all (topType 0x50) ts ≡ true → eqb (stateAfter (topRule 0x50) 1 ts) 3 ≡ false
+unfolding stateAfter
+fifties-1 [] h = refl
+fifties-1 (t ∷ ts) h = rw (next-known (topGood 0x50) 0x10 0x50 0x50 3 1 t (left-of _ _ h)) (go (eqb t 0x10) (eqb t 0x50) (right-of (topType 0x50 t) _ h))
+  where
+    go : (p q : Bool) → all (topType 0x50) ts ≡ true → eqb (stateAfter (topRule 0x50) (cond p wrong (cond q 2 wrong)) ts) 3 ≡ false
+    go true q r = top-lost 0x50 ts r
+    go false true r = fifties-2 ts r
+    go false false r = top-lost 0x50 ts r
 
-fifties : {ts : List ℕ} → Tops 0x50 ts → eqb (stateAfter (topRule 0x50) 0 ts) 3 ≡ false
-unfolding stateAfter topNext
-fifties none = refl
-fifties (application s) = fifties-1 s
-fifties (context {ts} s) = top-9 0x50 ts
-fifties (user {ts} s) = top-9 0x50 ts
+fifties : (ts : List ℕ) → all (topType 0x50) ts ≡ true → eqb (stateAfter (topRule 0x50) 0 ts) 3 ≡ false
+unfolding stateAfter
+fifties [] h = refl
+fifties (t ∷ ts) h = rw (next-known (topGood 0x50) 0x10 0x50 0x50 3 0 t (left-of _ _ h), nine (eqb t 0x50)) (go (eqb t 0x10) (right-of (topType 0x50 t) _ h))
+  where
+    go : (p : Bool) → all (topType 0x50) ts ≡ true → eqb (stateAfter (topRule 0x50) (cond p 1 wrong) ts) 3 ≡ false
+    go true r = fifties-1 ts r
+    go false r = top-lost 0x50 ts r
 
 -- ---- any type
 apart : (k t : ℕ) → eqb k t ≡ false → eqb t k ≡ false
 apart k t h = ne-eqb t k (λ e. eqb-false k t h (sym e))
 
-top-order : (k : ℕ) (ts : List ℕ) → Tops k ts → eqb (stateAfter (topRule k) 0 ts) 3 ≡ (leb 1 (times k ts) && sameBytes ts (topOrder k (times k ts)))
+top-order : (k : ℕ) (ts : List ℕ) → all (topType k) ts ≡ true → eqb (stateAfter (topRule k) 0 ts) 3 ≡ (leb 1 (times k ts) && sameBytes ts (topOrder k (times k ts)))
+unfolding times
 top-order k ts = go (eqb k 0x10) refl (eqb k 0x50) refl
   where
     go : (p : Bool) → eqb k 0x10 ≡ p → (q : Bool) → eqb k 0x50 ≡ q
-        → Tops k ts → eqb (stateAfter (topRule k) 0 ts) 3 ≡ (leb 1 (times k ts) && sameBytes ts (topOrder k (times k ts)))
-    go true e q f = rw (eqb-true k 0x10 e) λ s. tens s ∙ rw (few-10 ts) (sym (and-false (leb 1 (times 0x10 ts))))
-    go false e true f = rw (eqb-true k 0x50 f) λ s. fifties s ∙ rw (few-50 ts) (sym (and-false (leb 1 (times 0x50 ts))))
-    go false e false f = top-0 k (apart k 0x10 e) e (apart k 0x50 f)
+        → all (topType k) ts ≡ true → eqb (stateAfter (topRule k) 0 ts) 3 ≡ (leb 1 (times k ts) && sameBytes ts (topOrder k (times k ts)))
+    go true e q f = rw (eqb-true k 0x10 e) λ s. tens ts s ∙ rw (few-10 ts) (sym (and-false (leb 1 (times 0x10 ts))))
+    go false e true f = rw (eqb-true k 0x50 f) λ s. fifties ts s ∙ rw (few-50 ts) (sym (and-false (leb 1 (times 0x50 ts))))
+    go false e false f = λ s. from-0 (topGood k) 0x10 k 0x50 3 (0x50 ∷ []) refl (apart k 0x10 e) e refl refl refl (rw (apart k 0x50 f)) (top-tail k) ts s
 
 module _ (k : ℕ) where
   top-bodies : (t : ℕ) (b : List ℕ) → topGood k t b ≡ cond (among t (topKnown k)) (topGood k t b) true
@@ -282,17 +300,6 @@ module _ (k : ℕ) where
       go false false true = refl
       go false false false = refl
 
-  top-skips : (st t : ℕ) → among t (topKnown k) ≡ false → topNext k st t ≡ st
-  unfolding topNext among
-  top-skips st t = go (eqb t 0x10) (eqb t k) (eqb t 0x50)
-    where
-      go : (p q r : Bool) → (p || (q || (r || false))) ≡ false
-          → cond p (cond (eqb st 0) 1 wrong) (cond q (cond (eqb st 1) 2 (cond (eqb st 2) 2 wrong)) (cond r (cond (eqb st 2) 3 wrong) st)) ≡ st
-      go true q r h = absurd (held false (sym h))
-      go false true r h = absurd (held false (sym h))
-      go false false true h = absurd (held false (sym h))
-      go false false false h = refl
-
   k-known : among k (topKnown k) ≡ true
   unfolding among
   k-known = rw (eq-eqb k k refl) (or-true (eqb k 0x10))
@@ -301,6 +308,7 @@ module _ (k : ℕ) where
   unfolding topOk holds
   top-is w =
       let n : times k (only (topKnown k) (types w)) ≡ length (bodies k w) = times-only k (topKnown k) (types w) k-known ∙ times-types k w in
-      keeps-is (topRule k) (topKnown k) (topGood k) top-bodies top-skips 0 w
-      ∙ (rw (top-order k (only (topKnown k) (types w)) (tops k (types w)), n)
+      let s = top-order k (only (topKnown k) (types w)) (only-known (topKnown k) (topType k) (λ t h. sym (top-known k t) ∙ h) (types w)) in
+      keeps-is (topRule k) (topKnown k) (topGood k) top-bodies (λ st t h. next-skips (topGood k) 0x10 k 0x50 3 st t (sym (top-known k t) ∙ h)) 0 w
+      ∙ (rw (s, n)
       (gather (leb 1 (length (bodies k w))) (filled w) (sameBytes (only (topKnown k) (types w)) (topOrder k (length (bodies k w)))) (goodBodies (topKnown k) (topGood k) w)))

@@ -2,7 +2,8 @@
 ghost use mathlib.Core.Path.{_≡_};
 ghost use Rattle.items.specs.Items.{walk};
 ghost use Rattle.contents.specs.Contents.{one, subsOk, good20H, transferItemOk, good21H, contextGood};
-ghost use Rattle.contents.specs.Private.Order.{subGood, subNext};
+ghost use Rattle.contents.specs.Private.Order.{subGood};
+use crate::order::next;
 
 // Whether a sub-item of a 20H may have this body.
 fn sub_good(t: u8, b: &[u8]) -> bool
@@ -15,27 +16,6 @@ fn sub_good(t: u8, b: &[u8]) -> bool
         return names::name_ok(b);
     }
     true
-}
-
-fn sub_next(st: u8, t: u8) -> u8
-    ensures { λ r. ⌜ r ≡ subNext st t ⌝ }
-{
-    if t == 0x30 {
-        if st == 0 {
-            return 1;
-        }
-        return 9;
-    }
-    if t == 0x40 {
-        if st == 1 {
-            return 2;
-        }
-        if st == 2 {
-            return 2;
-        }
-        return 9;
-    }
-    st
 }
 
 // Whether the sub-items of a 20H are one 30H, then one or more 40H, each with a name.
@@ -54,7 +34,7 @@ fn subs_ok(s: &[u8]) -> bool
         if !sub_good(t, &s[a..e]) {
             return false;
         }
-        st = sub_next(st, t);
+        st = next(0x30, 0x40, 0x40, st, t);
         at = e;
     }
     st == 2

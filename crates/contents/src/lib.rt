@@ -1,6 +1,7 @@
 // The items of an RQ and of an AC: known ones in order, others skipped, and what each known one holds.
 mod context;
 mod ids;
+mod order;
 mod top;
 mod user;
 

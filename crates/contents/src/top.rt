@@ -2,9 +2,9 @@
 ghost use mathlib.Core.Path.{_≡_};
 ghost use Rattle.items.specs.Items.{walk};
 ghost use Rattle.contents.specs.Contents.{topGood, topOk, itemsOk};
-ghost use Rattle.contents.specs.Private.Order.{topNext};
 use crate::context::context_good;
 use crate::ids::ids_differ;
+use crate::order::next;
 use crate::user::user_ok;
 
 // Whether an item may have this body.
@@ -23,33 +23,6 @@ fn top_good(k: u8, t: u8, b: &[u8]) -> bool
     true
 }
 
-fn top_next(k: u8, st: u8, t: u8) -> u8
-    ensures { λ r. ⌜ r ≡ topNext k st t ⌝ }
-{
-    if t == 0x10 {
-        if st == 0 {
-            return 1;
-        }
-        return 9;
-    }
-    if t == k {
-        if st == 1 {
-            return 2;
-        }
-        if st == 2 {
-            return 2;
-        }
-        return 9;
-    }
-    if t == 0x50 {
-        if st == 2 {
-            return 3;
-        }
-        return 9;
-    }
-    st
-}
-
 // Whether the items are one 10H, one or more contexts and one 50H, in order, and each holds what it must.
 fn top_ok(k: u8, s: &[u8]) -> bool
     ensures { λ r. ⌜ r ≡ topOk k (walk (now (s .entry))) ⌝ }
@@ -66,7 +39,7 @@ fn top_ok(k: u8, s: &[u8]) -> bool
         if !top_good(k, t, &s[a..e]) {
             return false;
         }
-        st = top_next(k, st, t);
+        st = next(0x10, k, 0x50, st, t);
         at = e;
     }
     st == 3

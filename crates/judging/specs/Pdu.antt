@@ -4,6 +4,8 @@ use mathlib.Core.Bool.{Bool, true, false, _&&_, _||_, cond}
 use mathlib.Core.List.{List}
 use lib.ListN.{length, take, drop, getD}
 use lib.Dec.{leb, eqb}
+use Rattle.numbers.specs.Kinds.{NO-KIND, ASSOCIATE-RQ, ASSOCIATE-AC, ASSOCIATE-RJ, DATA-TF, RELEASE-RQ, RELEASE-RP, ABORT}
+use Rattle.numbers.specs.Lengths.{HEADER, LONGEST}
 use Rattle.octets.specs.Octets.{be16, be32, odd}
 use Rattle.titles.specs.Title.{titleOk}
 use Rattle.contents.specs.Contents.{itemsOk, maximumIn}
@@ -19,7 +21,7 @@ pduLength pdu = be32 pdu 2
 
 -- all bytes of one PDU, whose PDU-length is at most 16,384 ("house: one limit for all types")
 unfoldable pub whole : List ℕ → Bool
-whole pdu = eqb (length pdu) (6 + pduLength pdu) && leb (pduLength pdu) 16384
+whole pdu = eqb (length pdu) (HEADER + pduLength pdu) && leb (pduLength pdu) LONGEST
 
 -- ---- the fields of an RQ and of an AC
 abbrev pub versionOf : List ℕ → ℕ
@@ -49,7 +51,7 @@ rejectPduOk pdu = eqb (pduLength pdu) 4 && rejectOk (getD pdu 7 0) (getD pdu 8 0
 
 -- "04H P-DATA-TF: one or more PDV items that fill it"
 unfoldable pub dataOk : List ℕ → Bool
-dataOk pdu = pdvsOk 255 (drop 6 pdu)
+dataOk pdu = pdvsOk 255 (drop HEADER pdu)
 
 -- "05H, 06H: length 4."
 unfoldable pub releaseOk : List ℕ → Bool
@@ -62,22 +64,22 @@ abortPduOk pdu = eqb (pduLength pdu) 4 && abortOk (getD pdu 8 0) (getD pdu 9 0)
 -- ---- the kind: 1 to 7 as its type, or 0 for no whole valid PDU
 unfoldable pub validAs : ℕ → List ℕ → Bool
 validAs t pdu =
-    cond (eqb t 1) (requestOk pdu)
-    (cond (eqb t 2) (acceptOk pdu)
-    (cond (eqb t 3) (rejectPduOk pdu)
-    (cond (eqb t 4) (dataOk pdu)
-    (cond (eqb t 5) (releaseOk pdu)
-    (cond (eqb t 6) (releaseOk pdu)
-    (cond (eqb t 7) (abortPduOk pdu)
+    cond (eqb t ASSOCIATE-RQ) (requestOk pdu)
+    (cond (eqb t ASSOCIATE-AC) (acceptOk pdu)
+    (cond (eqb t ASSOCIATE-RJ) (rejectPduOk pdu)
+    (cond (eqb t DATA-TF) (dataOk pdu)
+    (cond (eqb t RELEASE-RQ) (releaseOk pdu)
+    (cond (eqb t RELEASE-RP) (releaseOk pdu)
+    (cond (eqb t ABORT) (abortPduOk pdu)
     false))))))
 
 unfoldable pub kindOf : List ℕ → ℕ
-kindOf pdu = cond (whole pdu && validAs (typeOf pdu) pdu) (typeOf pdu) 0
+kindOf pdu = cond (whole pdu && validAs (typeOf pdu) pdu) (typeOf pdu) NO-KIND
 
 -- "An RQ without bit 0 is valid but not acceptable"
 unfoldable pub acceptable : List ℕ → Bool
-acceptable pdu = eqb (kindOf pdu) 1 && odd (versionOf pdu)
+acceptable pdu = eqb (kindOf pdu) ASSOCIATE-RQ && odd (versionOf pdu)
 
 -- the maximum of a valid RQ or AC, else 0
 unfoldable pub maximumOf : List ℕ → ℕ
-maximumOf pdu = cond (eqb (kindOf pdu) 1 || eqb (kindOf pdu) 2) (maximumIn (topItems pdu)) 0
+maximumOf pdu = cond (eqb (kindOf pdu) ASSOCIATE-RQ || eqb (kindOf pdu) ASSOCIATE-AC) (maximumIn (topItems pdu)) 0

@@ -7,14 +7,14 @@ ghost use Rattle.judging.specs.Pdu.{whole, requestOk, acceptOk, rejectPd
 fn is_whole(pdu: &[u8]) -> bool
     ensures { λ r. ⌜ r ≡ whole (now (pdu .entry)) ⌝ }
 {
-    if pdu.len() < 6 {
+    if pdu.len() < numbers::HEADER {
         return false;
     }
     let n = octets::be32_at(pdu, 2) as usize;
-    if pdu.len() - 6 != n {
+    if pdu.len() - numbers::HEADER != n {
         return false;
     }
-    n <= 16384
+    n <= numbers::LONGEST
 }
 
 fn request_ok(pdu: &[u8]) -> bool
@@ -50,7 +50,7 @@ fn reject_pdu_ok(pdu: &[u8]) -> bool
     requires { ⌜ whole (now pdu) ≡ true ⌝ }
     ensures { λ r. ⌜ r ≡ rejectPduOk (now (pdu .entry)) ⌝ }
 {
-    if pdu.len() != 10 {
+    if pdu.len() != numbers::TEN {
         return false;
     }
     reasons::reject_ok(pdu[7], pdu[8], pdu[9])
@@ -60,21 +60,21 @@ fn data_ok(pdu: &[u8]) -> bool
     requires { ⌜ whole (now pdu) ≡ true ⌝ }
     ensures { λ r. ⌜ r ≡ dataOk (now (pdu .entry)) ⌝ }
 {
-    pdvs::pdvs_ok(255, &pdu[6..])
+    pdvs::pdvs_ok(255, &pdu[numbers::HEADER..])
 }
 
 fn release_ok(pdu: &[u8]) -> bool
     requires { ⌜ whole (now pdu) ≡ true ⌝ }
     ensures { λ r. ⌜ r ≡ releaseOk (now (pdu .entry)) ⌝ }
 {
-    pdu.len() == 10
+    pdu.len() == numbers::TEN
 }
 
 fn abort_pdu_ok(pdu: &[u8]) -> bool
     requires { ⌜ whole (now pdu) ≡ true ⌝ }
     ensures { λ r. ⌜ r ≡ abortPduOk (now (pdu .entry)) ⌝ }
 {
-    if pdu.len() != 10 {
+    if pdu.len() != numbers::TEN {
         return false;
     }
     reasons::abort_ok(pdu[8], pdu[9])
@@ -84,25 +84,25 @@ fn valid_as(t: u8, pdu: &[u8]) -> bool
     requires { ⌜ whole (now pdu) ≡ true ⌝ }
     ensures { λ r. ⌜ r ≡ validAs t (now (pdu .entry)) ⌝ }
 {
-    if t == 1 {
+    if t == numbers::ASSOCIATE_RQ {
         return request_ok(pdu);
     }
-    if t == 2 {
+    if t == numbers::ASSOCIATE_AC {
         return accept_ok(pdu);
     }
-    if t == 3 {
+    if t == numbers::ASSOCIATE_RJ {
         return reject_pdu_ok(pdu);
     }
-    if t == 4 {
+    if t == numbers::DATA_TF {
         return data_ok(pdu);
     }
-    if t == 5 {
+    if t == numbers::RELEASE_RQ {
         return release_ok(pdu);
     }
-    if t == 6 {
+    if t == numbers::RELEASE_RP {
         return release_ok(pdu);
     }
-    if t == 7 {
+    if t == numbers::ABORT {
         return abort_pdu_ok(pdu);
     }
     false
@@ -116,7 +116,7 @@ fn kind_as(t: u8, pdu: &[u8]) -> u8
     if valid_as(t, pdu) {
         return t;
     }
-    0
+    numbers::NO_KIND
 }
 
 // The kind, 1 to 7 as its type; 0 where the bytes are no whole valid PDU.
@@ -124,7 +124,7 @@ pub fn kind_of(pdu: &[u8]) -> u8
     ensures { λ r. ⌜ r ≡ kindOf (now (pdu .entry)) ⌝ }
 {
     if !is_whole(pdu) {
-        return 0;
+        return numbers::NO_KIND;
     }
     kind_as(pdu[0], pdu)
 }
@@ -133,7 +133,7 @@ pub fn kind_of(pdu: &[u8]) -> u8
 pub fn acceptable(pdu: &[u8]) -> bool
     ensures { λ r. ⌜ r ≡ acceptableOf (now (pdu .entry)) ⌝ }
 {
-    if kind_of(pdu) != 1 {
+    if kind_of(pdu) != numbers::ASSOCIATE_RQ {
         return false;
     }
     octets::be16_at(pdu, 6) % 2 == 1
@@ -144,10 +144,10 @@ pub fn maximum_of(pdu: &[u8]) -> u32
     ensures { λ r. ⌜ r ≡ maximumOf (now (pdu .entry)) ⌝ }
 {
     let k = kind_of(pdu);
-    if k == 1 {
+    if k == numbers::ASSOCIATE_RQ {
         return contents::maximum_in(&pdu[74..]);
     }
-    if k == 2 {
+    if k == numbers::ASSOCIATE_AC {
         return contents::maximum_in(&pdu[74..]);
     }
     0

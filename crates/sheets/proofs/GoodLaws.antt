@@ -11,15 +11,16 @@ use lib.Dec.{leb, eqb}
 use borrow.Author.Needs.{needs}
 use borrow.Author.Tests.{le-leb, lt-leb, eq-eqb, ne-eqb, eqb-true, eqb-false, not-true, not-false}
 use Rattle.laws.specs.Lists.{all, distinct, sameBytes}
-use Rattle.laws.proofs.Booleans.{left-of, right-of, held}
+use Rattle.laws.proofs.Booleans.{left-of, right-of, both-of, held}
 use Rattle.laws.proofs.Places.{all-passes, all-fails, all-end, part-tail}
+use Rattle.laws.proofs.Tests.{deciding}
 use Rattle.laws.proofs.Same.{same-equal}
 use Rattle.names.specs.Name.{nameOk}
 use Rattle.octets.specs.Octets.{odd}
 use Rattle.sheets.specs.Contexts.{Context, contextId, answeredId, contextOk, transferNameOk, answeredOk, contextsOk, allAnsweredOk}
 use Rattle.sheets.specs.Sheet.{recordId, abstractOf, transferOf, recordsOf, goesOn, firstTransfers, others, start, sheetRuns, contextsIn, answeredOf, answersIn, zero?, fieldOk, fieldsOk, proposes, proposalRecord, answers, proposalOk, answersOk}
 use Rattle.sheets.specs.Record.{recordAt}
-use Rattle.sheets.specs.Private.OneRecord.{answerRecord, recordOk, idsIn}
+use Rattle.sheets.specs.Private.OneRecord.{answerRecord, recordOk, sheetOk, idsIn}
 use Rattle.sheets.proofs.RunLaws.{records-cons, records-none, record-here, contexts-here, contexts-none, no-run}
 
 -- ---- `zeros`
@@ -64,73 +65,27 @@ module _ (r : List ℕ) where
 
 pub ruleset fields-laws = (needs, fields-bad, fields-rest, second-long, first-long)
 
--- ---- one record of a proposal
-module _ (r : List ℕ) where
-  pub proposal-result : (getD r 1 0 ≡ 0 → ⊥) → false ≡ proposalRecord r
-  unfolding proposalRecord proposes
-  proposal-result n = simp (ne-eqb _ _ n)
+-- ---- one record: a conjunction whose first part is one too, and tests of the record's own names
+pub not-left : (a b : Bool) → a ≡ false → (a && b) ≡ false
+not-left a b e = rw e
 
-  module _ (f : Bool) (z : getD r 1 0 ≡ 0) (q : f ≡ fieldsOk r) where
-    pub proposal-fields : not f ≡ true → false ≡ proposalRecord r
-    unfolding proposalRecord proposes
-    proposal-fields t = simp (eq-eqb _ _ z, sym q ∙ not-true f t)
+pub not-right : (a b : Bool) → a ≡ true → b ≡ false → (a && b) ≡ false
+not-right a b e q = rw (e, q)
 
-    module _ (t : not f ≡ false) where
-      pub proposal-even : (getD r 0 0 % 2 ≡ 1 → ⊥) → false ≡ proposalRecord r
-      unfolding proposalRecord proposes
-      proposal-even n = simp (eq-eqb _ _ z, sym q ∙ not-false f t, ne-eqb _ _ n)
+module _ (x a : List ℕ) (e : x ≡ a) (b : Bool) where
+  pub name-yes : b ≡ nameOk x → not b ≡ false → nameOk a ≡ true
+  name-yes q t = ap nameOk (sym e) ∙ (sym q ∙ not-false b t)
 
-      pub proposal-abstract : (a : List ℕ) (b : Bool) → getD r 0 0 % 2 ≡ 1 → a ≡ abstractOf r → b ≡ nameOk a → not b ≡ true → false ≡ proposalRecord r
-      unfolding proposalRecord proposes
-      proposal-abstract a b o e p u = simp (eq-eqb _ _ z, sym q ∙ not-false f t, eq-eqb _ _ o, ap nameOk (sym e) ∙ (sym p ∙ not-true b u))
+  pub name-not : b ≡ nameOk x → not b ≡ true → nameOk a ≡ false
+  name-not q t = ap nameOk (sym e) ∙ (sym q ∙ not-true b t)
 
-      pub proposal-rest : (a x : List ℕ) (b d : Bool) → getD r 0 0 % 2 ≡ 1 → a ≡ abstractOf r → b ≡ nameOk a → not b ≡ false → x ≡ transferOf r → d ≡ nameOk x → d ≡ proposalRecord r
-      unfolding proposalRecord proposes
-      proposal-rest a x b d o e p u g w = w ∙ (rw g (simp (eq-eqb _ _ z, sym q ∙ not-false f t, eq-eqb _ _ o, ap nameOk (sym e) ∙ (sym p ∙ not-false b u))))
+  pub name-as : b ≡ nameOk x → b ≡ nameOk a
+  name-as q = q ∙ ap nameOk e
 
-pub ruleset proposal-record-laws = (needs, proposal-result, proposal-fields, proposal-even, proposal-abstract, proposal-rest)
+  pub transfer-as : (result : ℕ) → b ≡ transferNameOk result x → b ≡ transferNameOk result a
+  transfer-as result q = q ∙ ap (transferNameOk result) e
 
--- ---- one record of an answer
-pub transfer-test : (result : ℕ) (x : List ℕ) (b : Bool) → b ≡ nameOk x → b ≡ transferNameOk result x
-unfolding transferNameOk
-transfer-test result x b e = e
-
-pub ruleset transfer-laws = (needs, transfer-test)
-
-module _ (r : List ℕ) where
-  pub answer-abstract : (getD r 2 0 ≡ 0 → ⊥) → false ≡ answerRecord r
-  unfolding answerRecord answers
-  answer-abstract n = simp (ne-eqb _ _ n)
-
-  module _ (f : Bool) (z : getD r 2 0 ≡ 0) (q : f ≡ fieldsOk r) where
-    pub answer-fields : not f ≡ true → false ≡ answerRecord r
-    unfolding answerRecord answers
-    answer-fields t = simp (eq-eqb _ _ z, sym q ∙ not-true f t)
-
-    module _ (t : not f ≡ false) where
-      pub answer-even : (getD r 0 0 % 2 ≡ 1 → ⊥) → false ≡ answerRecord r
-      unfolding answerRecord answers answeredOk answeredOf
-      answer-even n = simp (eq-eqb _ _ z, sym q ∙ not-false f t, ne-eqb _ _ n)
-
-      pub answer-result : getD r 0 0 % 2 ≡ 1 → 4 < getD r 1 0 → false ≡ answerRecord r
-      unfolding answerRecord answers answeredOk answeredOf
-      answer-result o h = simp (eq-eqb _ _ z, sym q ∙ not-false f t, eq-eqb _ _ o, lt-leb _ _ h)
-
-      pub answer-rest : (x : List ℕ) (d : Bool) → getD r 0 0 % 2 ≡ 1 → getD r 1 0 ≤ 4 → x ≡ transferOf r → d ≡ transferNameOk (getD r 1 0) x → d ≡ answerRecord r
-      unfolding answerRecord answers answeredOk answeredOf
-      answer-rest x d o h g w = w ∙ (rw g (simp (eq-eqb _ _ z, sym q ∙ not-false f t, eq-eqb _ _ o, le-leb _ _ h)))
-
-pub ruleset answer-record-laws = (needs, answer-abstract, answer-fields, answer-even, answer-result, answer-rest)
-
-pub as-answer : (answer b : Bool) (r : List ℕ) → answer ≡ true → b ≡ answerRecord r → b ≡ recordOk answer r
-unfolding recordOk
-as-answer answer b r t e = rw t e
-
-pub as-proposal : (answer b : Bool) (r : List ℕ) → answer ≡ false → b ≡ proposalRecord r → b ≡ recordOk answer r
-unfolding recordOk
-as-proposal answer b r t e = rw t e
-
-pub ruleset as-laws = (needs, as-answer, as-proposal)
+pub ruleset one-laws = (deciding, both-of, not-left, not-right, name-yes, name-not, name-as, transfer-as, needs)
 
 -- ---- `records_ok`
 module _ (k : Bool) (s : List ℕ) (at : ℕ) (v : all (recordOk k) (recordsOf (drop at s)) ≡ all (recordOk k) (recordsOf s)) (w : length s % 132 ≡ 0) (z : at % 132 ≡ 0) where
@@ -217,36 +172,61 @@ unfolding recordOk answerRecord
 records-answer [] = refl
 records-answer (r ∷ rs) = rw (records-answer rs) (across (answers r) (answeredOk (answeredOf r)) (all answers rs) (all answeredOk (map answeredOf rs)))
 
--- ---- `proposal_ok`
+-- ---- `sheet_ok`
 together : (p c d : Bool) → (p && (c && d)) ≡ ((p && c) && d)
 together true c d = refl
 together false c d = refl
 
-module _ (s : List ℕ) where
-  pub proposal-none : length s ≡ 0 → false ≡ proposalOk s
-  unfolding proposalOk contextsOk
-  proposal-none e = rw (contexts-none s 0 (omega arith)) (simp and-false)
+answered-ids : (rs : List (List ℕ)) → map answeredId (map answeredOf rs) ≡ map recordId rs
+unfolding answeredOf
+answered-ids [] = refl
+answered-ids (r ∷ rs) = rw (answered-ids rs)
 
-  pub proposal-part : (length s % 132 ≡ 0 → ⊥) → false ≡ proposalOk s
-  unfolding proposalOk
-  proposal-part n = simp (ne-eqb _ _ n)
+pub sheet-none : (answer : Bool) (s : List ℕ) → length s ≡ 0 → false ≡ sheetOk answer s
+unfolding sheetOk proposalOk contextsOk answersOk allAnsweredOk answersIn
+sheet-none true s e = rw (records-none s (omega arith)) (simp and-false)
+sheet-none false s e = rw (contexts-none s 0 (omega arith)) (simp and-false)
 
-  module _ (n : length s ≡ 0 → ⊥) (m : length s % 132 ≡ 0) where
-    some-context : leb 1 (length (contextsIn s)) ≡ true
-    unfolding start
-    some-context = let e = ap length (contexts-here s 0 (omega arith)) in le-leb 1 (length (contextsIn s)) (omega arith)
+pub sheet-part : (answer : Bool) (s : List ℕ) → (length s % 132 ≡ 0 → ⊥) → false ≡ sheetOk answer s
+unfolding sheetOk proposalOk answersOk
+sheet-part true s n = simp (ne-eqb _ _ n)
+sheet-part false s n = simp (ne-eqb _ _ n)
 
-    proposal-is : proposalOk s ≡ (all (recordOk false) (recordsOf s) && distinct (map contextId (contextsIn s)))
-    unfolding proposalOk contextsOk contextsIn
-    proposal-is = rw (eq-eqb _ _ m, some-context, records-proposal (recordsOf s)) (together (all proposes (recordsOf s)) (all contextOk (contextsIn s)) (distinct (map contextId (contextsIn s))))
+module _ (s : List ℕ) (n : length s ≡ 0 → ⊥) (m : length s % 132 ≡ 0) where
+  some-context : leb 1 (length (contextsIn s)) ≡ true
+  unfolding start
+  some-context = let e = ap length (contexts-here s 0 (omega arith)) in le-leb 1 (length (contextsIn s)) (omega arith)
 
-    pub proposal-bad : (b : Bool) → b ≡ all (recordOk false) (recordsOf s) → not b ≡ true → false ≡ proposalOk s
-    proposal-bad b q t = sym (proposal-is ∙ simp (sym q ∙ not-true b t))
+  some-answer : leb 1 (length (answersIn s)) ≡ true
+  unfolding answersIn
+  some-answer = let e = ap length (records-cons s (omega arith)) in le-leb 1 (length (answersIn s)) (omega (arith, length-map (recordsOf s) answeredOf))
 
-    pub proposal-good : (b d : Bool) → b ≡ all (recordOk false) (recordsOf s) → not b ≡ false → d ≡ distinct (map contextId (contextsIn s)) → d ≡ proposalOk s
-    proposal-good b d q t x = x ∙ sym (proposal-is ∙ simp (sym q ∙ not-false b t))
+  -- the IDs that may not come twice
+  abbrev sheetIds : Bool → List ℕ
+  sheetIds answer = cond answer (idsIn s) (map contextId (contextsIn s))
 
-pub ruleset proposal-laws = (needs, proposal-none, proposal-part, proposal-bad, proposal-good)
+  sheet-is : (answer : Bool) → sheetOk answer s ≡ (all (recordOk answer) (recordsOf s) && distinct (sheetIds answer))
+  unfolding sheetOk proposalOk contextsOk contextsIn answersOk allAnsweredOk answersIn idsIn
+  sheet-is false =
+      rw (eq-eqb _ _ m, some-context, records-proposal (recordsOf s)) (together (all proposes (recordsOf s)) (all contextOk (contextsIn s)) (distinct (map contextId (contextsIn s))))
+  sheet-is true =
+      rw (eq-eqb _ _ m, some-answer, records-answer (recordsOf s), ← answered-ids (recordsOf s))
+      (together (all answers (recordsOf s)) (all answeredOk (map answeredOf (recordsOf s))) (distinct (map answeredId (map answeredOf (recordsOf s)))))
+
+  module _ (answer b : Bool) (q : b ≡ all (recordOk answer) (recordsOf s)) where
+    pub sheet-bad : not b ≡ true → false ≡ sheetOk answer s
+    sheet-bad t = sym (sheet-is answer ∙ simp (sym q ∙ not-true b t))
+
+    sheet-rest : not b ≡ false → sheetOk answer s ≡ distinct (sheetIds answer)
+    sheet-rest t = sheet-is answer ∙ simp (sym q ∙ not-false b t)
+
+    pub sheet-answer : (d : Bool) → not b ≡ false → answer ≡ true → d ≡ distinct (idsIn s) → d ≡ sheetOk answer s
+    sheet-answer d t a e = e ∙ sym (sheet-rest t ∙ rw a)
+
+    pub sheet-proposal : (d : Bool) → not b ≡ false → answer ≡ false → d ≡ distinct (map contextId (contextsIn s)) → d ≡ sheetOk answer s
+    sheet-proposal d t a e = e ∙ sym (sheet-rest t ∙ rw a)
+
+pub ruleset sheet-laws = (needs, sheet-none, sheet-part, sheet-bad, sheet-answer, sheet-proposal)
 
 -- ---- one bad record, whatever the others and however many
 all-but : (p : List ℕ → Bool) (s : List ℕ) (k : ℕ) → 132 * k + 132 ≤ length s → p (recordAt s (132 * k)) ≡ false → all p (recordsOf s) ≡ false
@@ -257,43 +237,9 @@ all-but p s (suc k) h e =
     rw (records-cons s (omega arith), r) (and-false (p (take 132 s)))
 
 pub bad-record : (s : List ℕ) (k : ℕ) → 132 * k + 132 ≤ length s → proposalRecord (recordAt s (132 * k)) ≡ false → proposalOk s ≡ false
-unfolding recordOk
+unfolding recordOk sheetOk
 bad-record s k h e = go (eqb (length s % 132) 0) refl
   where
     go : (b : Bool) → eqb (length s % 132) 0 ≡ b → proposalOk s ≡ false
-    go true q = sym (proposal-bad s (λ z. omega arith) (eqb-true _ _ q) (all (recordOk false) (recordsOf s)) refl (rw (all-but (recordOk false) s k h e)))
-    go false q = sym (proposal-part s (eqb-false _ _ q))
-
--- ---- `answers_ok`
-answered-ids : (rs : List (List ℕ)) → map answeredId (map answeredOf rs) ≡ map recordId rs
-unfolding answeredOf
-answered-ids [] = refl
-answered-ids (r ∷ rs) = rw (answered-ids rs)
-
-module _ (s : List ℕ) where
-  pub answers-none : length s ≡ 0 → false ≡ answersOk s
-  unfolding answersOk allAnsweredOk answersIn
-  answers-none e = rw (records-none s (omega arith)) (simp and-false)
-
-  pub answers-part : (length s % 132 ≡ 0 → ⊥) → false ≡ answersOk s
-  unfolding answersOk
-  answers-part n = simp (ne-eqb _ _ n)
-
-  module _ (n : length s ≡ 0 → ⊥) (m : length s % 132 ≡ 0) where
-    some-answer : leb 1 (length (answersIn s)) ≡ true
-    unfolding answersIn
-    some-answer = let e = ap length (records-cons s (omega arith)) in le-leb 1 (length (answersIn s)) (omega (arith, length-map (recordsOf s) answeredOf))
-
-    answers-is : answersOk s ≡ (all (recordOk true) (recordsOf s) && distinct (idsIn s))
-    unfolding answersOk allAnsweredOk answersIn idsIn
-    answers-is =
-        rw (eq-eqb _ _ m, some-answer, records-answer (recordsOf s), ← answered-ids (recordsOf s))
-        (together (all answers (recordsOf s)) (all answeredOk (map answeredOf (recordsOf s))) (distinct (map answeredId (map answeredOf (recordsOf s)))))
-
-    pub answers-bad : (b : Bool) → b ≡ all (recordOk true) (recordsOf s) → not b ≡ true → false ≡ answersOk s
-    answers-bad b q t = sym (answers-is ∙ simp (sym q ∙ not-true b t))
-
-    pub answers-good : (b d : Bool) → b ≡ all (recordOk true) (recordsOf s) → not b ≡ false → d ≡ distinct (idsIn s) → d ≡ answersOk s
-    answers-good b d q t x = x ∙ sym (answers-is ∙ simp (sym q ∙ not-false b t))
-
-pub ruleset answers-laws = (needs, answers-none, answers-part, answers-bad, answers-good)
+    go true q = sym (sheet-bad s (λ z. omega arith) (eqb-true _ _ q) false (all (recordOk false) (recordsOf s)) refl (rw (all-but (recordOk false) s k h e)))
+    go false q = sym (sheet-part false s (eqb-false _ _ q))

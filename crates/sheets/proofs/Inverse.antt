@@ -127,59 +127,65 @@ answers-back-one r l k =
     let n : abstractOf r ≡ [] = rw (z, ← cap-low 0 (omega arith)) in
     ap (λ (a : List ℕ). recordBytes (recordId r) (getD r 1 0) a (transferOf r)) (sym n) ∙ record-back r l (right-of (eqb (getD r 2 0) 0) _ k)
 
--- n records of 132 bytes, all of them
-runs-back : (n : ℕ) (s : List ℕ) → length s ≡ 132 * n → all proposes (records 132 n s) ≡ true → sheetOf (sheetRuns (records 132 n s)) ≡ s
-unfolding sheetRuns sheetOf
-runs-back zero [] l k = refl
-runs-back zero (x ∷ s) l k = absurd (omega arith)
-runs-back (suc n) s l k =
-    start-back (take 132 s) (sheetRuns (records 132 n (drop 132 s)))
-    ∙ ((λ i. proposes-back (take 132 s) (length-take-le 132 s (omega arith)) (left-of _ _ k) i ++ runs-back n (drop 132 s) (omega (arith, length-drop 132 s)) (right-of (proposes (take 132 s)) _ k) i)
-    ∙ take-append-drop 132 s)
+-- records that are the bytes of what each says: all of a sheet's are the sheet
+module _ {C : Type 0} (form : List ℕ → Bool) (of : List (List ℕ) → List C) (bytes : List C → List ℕ) (none : bytes (of []) ≡ [])
+    (one : (r : List ℕ) (rs : List (List ℕ)) → length r ≡ 132 → form r ≡ true → bytes (of (r ∷ rs)) ≡ r ++ bytes (of rs)) where
+  -- n of them
+  rows-back : (n : ℕ) (s : List ℕ) → length s ≡ 132 * n → all form (records 132 n s) ≡ true → bytes (of (records 132 n s)) ≡ s
+  rows-back zero [] l k = none
+  rows-back zero (x ∷ s) l k = absurd (omega arith)
+  rows-back (suc n) s l k =
+      one (take 132 s) (records 132 n (drop 132 s)) (length-take-le 132 s (omega arith)) (left-of _ _ k)
+      ∙ (ap (λ (m : List ℕ). take 132 s ++ m) (rows-back n (drop 132 s) (omega (arith, length-drop 132 s)) (right-of (form (take 132 s)) _ k)) ∙ take-append-drop 132 s)
 
-answers-back : (n : ℕ) (s : List ℕ) → length s ≡ 132 * n → all answers (records 132 n s) ≡ true → answerSheetOf (map answeredOf (records 132 n s)) ≡ s
-unfolding answerSheetOf answeredOf
-answers-back zero [] l k = refl
-answers-back zero (x ∷ s) l k = absurd (omega arith)
-answers-back (suc n) s l k =
-    (λ i. answers-back-one (take 132 s) (length-take-le 132 s (omega arith)) (left-of _ _ k) i ++ answers-back n (drop 132 s) (omega (arith, length-drop 132 s)) (right-of (answers (take 132 s)) _ k) i)
-    ∙ take-append-drop 132 s
+  sheet-back : (s : List ℕ) → length s % 132 ≡ 0 → all form (recordsOf s) ≡ true → bytes (of (recordsOf s)) ≡ s
+  unfolding recordsOf
+  sheet-back s m k = rows-back (length s / 132) s (omega arith) k
+
+-- ---- what a good sheet has
+record Good (form : List ℕ → Bool) (ok : Bool) (s : List ℕ) : Type 0 where
+  whole : length s % 132 ≡ 0
+  formed : all form (recordsOf s) ≡ true
+  holds : ok ≡ true
+
+good : (form : List ℕ → Bool) (ok : Bool) (s : List ℕ) → (eqb (length s % 132) 0 && (all form (recordsOf s) && ok)) ≡ true → Good form ok s
+good form ok s k =
+    let r : (all form (recordsOf s) && ok) ≡ true = right-of (eqb (length s % 132) 0) _ k in
+    record { whole = eqb-true _ _ (left-of _ (all form (recordsOf s) && ok) k); formed = left-of _ _ r; holds = right-of (all form (recordsOf s)) _ r }
 
 module _ (s : List ℕ) (k : proposalOk s ≡ true) where
-  proposal-parts : (eqb (length s % 132) 0 && (all proposes (recordsOf s) && contextsOk (contextsIn s))) ≡ true
+  proposal-good : Good proposes (contextsOk (contextsIn s)) s
   unfolding proposalOk
-  proposal-parts = k
+  proposal-good = good proposes (contextsOk (contextsIn s)) s k
 
   pub proposal-whole : length s % 132 ≡ 0
-  proposal-whole = eqb-true _ _ (left-of _ _ proposal-parts)
-
-  proposal-rest : (all proposes (recordsOf s) && contextsOk (contextsIn s)) ≡ true
-  proposal-rest = right-of (eqb (length s % 132) 0) _ proposal-parts
+  proposal-whole = proposal-good .whole
 
   pub proposal-contexts : contextsOk (contextsIn s) ≡ true
-  proposal-contexts = right-of (all proposes (recordsOf s)) _ proposal-rest
+  proposal-contexts = proposal-good .holds
 
   pub proposal-back : sheetOf (contextsIn s) ≡ s
-  unfolding contextsIn recordsOf
-  proposal-back = let m = proposal-whole in runs-back (length s / 132) s (omega arith) (left-of _ (contextsOk (contextsIn s)) proposal-rest)
+  unfolding contextsIn sheetRuns sheetOf
+  proposal-back =
+      sheet-back proposes sheetRuns sheetOf refl (λ r rs l g. start-back r (sheetRuns rs) ∙ ap (λ (b : List ℕ). b ++ sheetOf (sheetRuns rs)) (proposes-back r l g))
+      s proposal-whole (proposal-good .formed)
 
 module _ (s : List ℕ) (k : answersOk s ≡ true) where
-  answers-parts : (eqb (length s % 132) 0 && (all answers (recordsOf s) && allAnsweredOk (answersIn s))) ≡ true
+  answers-good : Good answers (allAnsweredOk (answersIn s)) s
   unfolding answersOk
-  answers-parts = k
+  answers-good = good answers (allAnsweredOk (answersIn s)) s k
 
   pub answers-whole : length s % 132 ≡ 0
-  answers-whole = eqb-true _ _ (left-of _ _ answers-parts)
-
-  answers-rest : (all answers (recordsOf s) && allAnsweredOk (answersIn s)) ≡ true
-  answers-rest = right-of (eqb (length s % 132) 0) _ answers-parts
+  answers-whole = answers-good .whole
 
   pub answers-answered : allAnsweredOk (answersIn s) ≡ true
-  answers-answered = right-of (all answers (recordsOf s)) _ answers-rest
+  answers-answered = answers-good .holds
 
   pub answer-sheet-back : answerSheetOf (answersIn s) ≡ s
-  unfolding answersIn recordsOf
-  answer-sheet-back = let m = answers-whole in answers-back (length s / 132) s (omega arith) (left-of _ (allAnsweredOk (answersIn s)) answers-rest)
+  unfolding answersIn answeredOf answerSheetOf
+  answer-sheet-back =
+      sheet-back answers (map answeredOf) answerSheetOf refl (λ r rs l g. ap (λ (b : List ℕ). b ++ answerSheetOf (map answeredOf rs)) (answers-back-one r l g))
+      s answers-whole (answers-good .formed)
 
 -- ---- what the record of two names says
 module _ (id result : ℕ) (a x : List ℕ) (h : length a ≤ 64) (l : length x ≤ 64) where
@@ -212,27 +218,30 @@ fields-good id result a x h l =
 records-front : (r s : List ℕ) → length r ≡ 132 → recordsOf (r ++ s) ≡ r ∷ recordsOf s
 records-front r s l = records-cons (r ++ s) (omega (arith, length-append r s)) ∙ rw (take-at r s 132 l, drop-at r s 132 l)
 
--- ---- good contexts are those of their sheet
-record Sheeted (s : List ℕ) (cs : List Context) : Type 0 where
+-- ---- a sheet whose records have a form, and from which cs are read
+record Sheeted {C : Type 0} (form : List ℕ → Bool) (of : List ℕ → List C) (s : List ℕ) (cs : List C) : Type 0 where
   whole : length s % 132 ≡ 0
-  form : all proposes (recordsOf s) ≡ true
-  back : contextsIn s ≡ cs
+  formed : all form (recordsOf s) ≡ true
+  back : of s ≡ cs
 
-sheeted-row : (id : ℕ) (a x s : List ℕ) (cs : List Context) → length a ≤ 64 → length x ≤ 64 → Sheeted s cs → Sheeted (recordBytes id 0 a x ++ s) (start (recordBytes id 0 a x) cs)
+-- with one record in front
+in-front : {C : Type 0} (form : List ℕ → Bool) (of : List ℕ → List C) (r s : List ℕ) (cs ds : List C) → length r ≡ 132 → form r ≡ true → of (r ++ s) ≡ ds
+    → Sheeted form of s cs → Sheeted form of (r ++ s) ds
+in-front form of r s cs ds l g b w =
+    let n = length-append r s in
+    let k = w .whole in
+    record { whole = omega arith; formed = rw (records-front r s l) (both-of _ _ g (w .formed)); back = b }
+
+-- ---- good contexts are those of their sheet
+abbrev Proposing : List ℕ → List Context → Type 0
+Proposing = Sheeted proposes contextsIn
+
+sheeted-row : (id : ℕ) (a x s : List ℕ) (cs : List Context) → length a ≤ 64 → length x ≤ 64 → Proposing s cs → Proposing (recordBytes id 0 a x ++ s) (start (recordBytes id 0 a x) cs)
 unfolding contextsIn sheetRuns proposes recordBytes
 sheeted-row id a x s cs h l w =
     let m = record-length id 0 a x h l in
-    let f = records-front (recordBytes id 0 a x) s m in
-    let n = length-append (recordBytes id 0 a x) s in
-    let k = w .whole in
-    record {
-      whole = omega arith;
-      form = rw f (both-of _ _ (both-of (eqb (getD (recordBytes id 0 a x) 1 0) 0) _ result-zero (fields-good id 0 a x h l)) (w .form));
-      back = ap sheetRuns f ∙ ap (start (recordBytes id 0 a x)) (w .back);
-    }
-  where
-    result-zero : eqb (getD (recordBytes id 0 a x) 1 0) 0 ≡ true
-    result-zero = refl
+    in-front proposes contextsIn (recordBytes id 0 a x) s cs (start (recordBytes id 0 a x) cs) m (fields-good id 0 a x h l)
+    (ap sheetRuns (records-front (recordBytes id 0 a x) s m) ∙ ap (start (recordBytes id 0 a x)) (w .back)) w
 
 -- the record of a context that is none of cs starts one of its own; of the first of cs, it goes into it
 new-run : (id : ℕ) (a x : List ℕ) (cs : List Context) → length a ≤ 64 → length x ≤ 64 → among id (map contextId cs) ≡ false
@@ -263,7 +272,7 @@ more-run id a x xs cs h l =
     rw g (λ i. record { id = id; abstr = p i; transfers = q i ∷ xs } ∷ cs)
 
 sheeted-run : (id : ℕ) (a x : List ℕ) (xs : List (List ℕ)) (s : List ℕ) (cs : List Context) → length a ≤ 64 → all nameOk (x ∷ xs) ≡ true → among id (map contextId cs) ≡ false
-    → Sheeted s cs → Sheeted (contextRecords id a (x ∷ xs) ++ s) (record { id = id; abstr = a; transfers = x ∷ xs } ∷ cs)
+    → Proposing s cs → Proposing (contextRecords id a (x ∷ xs) ++ s) (record { id = id; abstr = a; transfers = x ∷ xs } ∷ cs)
 unfolding contextRecords
 sheeted-run id a x [] s cs h k n w =
     let l : length x ≤ 64 = name-short x (left-of _ _ k) in
@@ -278,13 +287,13 @@ sheeted-run id a x (y ∷ ys) s cs h k n w =
     rw (← e, ← more-run id a x (y ∷ ys) cs h l) r
 
 sheeted-context : (id : ℕ) (a : List ℕ) (xs : List (List ℕ)) (s : List ℕ) (cs : List Context) → length a ≤ 64 → leb 1 (length xs) ≡ true → all nameOk xs ≡ true → among id (map contextId cs) ≡ false
-    → Sheeted s cs → Sheeted (contextRecords id a xs ++ s) (record { id = id; abstr = a; transfers = xs } ∷ cs)
+    → Proposing s cs → Proposing (contextRecords id a xs ++ s) (record { id = id; abstr = a; transfers = xs } ∷ cs)
 sheeted-context id a [] s cs h p k n w = absurd (held false p)
 sheeted-context id a (x ∷ xs) s cs h p k n w = sheeted-run id a x xs s cs h k n w
 
-sheeted : (cs : List Context) → all contextOk cs ≡ true → distinct (map contextId cs) ≡ true → Sheeted (sheetOf cs) cs
+sheeted : (cs : List Context) → all contextOk cs ≡ true → distinct (map contextId cs) ≡ true → Proposing (sheetOf cs) cs
 unfolding sheetOf contextOk distinct contextsIn sheetRuns recordsOf
-sheeted [] k d = record { whole = refl; form = refl; back = refl }
+sheeted [] k d = record { whole = refl; formed = refl; back = refl }
 sheeted (c ∷ cs) k d =
     let o : (odd (c .id) && (nameOk (c .abstr) && (leb 1 (length (c .transfers)) && all nameOk (c .transfers)))) ≡ true = left-of _ _ k in
     let o₂ : (nameOk (c .abstr) && (leb 1 (length (c .transfers)) && all nameOk (c .transfers))) ≡ true = right-of (odd (c .id)) _ o in
@@ -298,7 +307,7 @@ module _ (cs : List Context) (k : contextsOk cs ≡ true) where
   unfolding contextsOk
   context-parts = k
 
-  contexts-sheeted : Sheeted (sheetOf cs) cs
+  contexts-sheeted : Proposing (sheetOf cs) cs
   contexts-sheeted =
       let p : (all contextOk cs && distinct (map contextId cs)) ≡ true = right-of (leb 1 (length cs)) _ context-parts in
       sheeted cs (left-of _ _ p) (right-of (all contextOk cs) _ p)
@@ -310,34 +319,25 @@ module _ (cs : List Context) (k : contextsOk cs ≡ true) where
   unfolding proposalOk
   contexts-proposal =
       let w = contexts-sheeted in
-      both-of _ _ (eq-eqb (length (sheetOf cs) % 132) 0 (w .whole)) (both-of _ _ (w .form) (ap contextsOk (w .back) ∙ k))
+      both-of _ _ (eq-eqb (length (sheetOf cs) % 132) 0 (w .whole)) (both-of _ _ (w .formed) (ap contextsOk (w .back) ∙ k))
 
 -- ---- and good answers those of theirs
-record Answering (s : List ℕ) (cs : List Answered) : Type 0 where
-  whole : length s % 132 ≡ 0
-  form : all answers (recordsOf s) ≡ true
-  back : answersIn s ≡ cs
+abbrev Answering : List ℕ → List Answered → Type 0
+Answering = Sheeted answers answersIn
 
 answering-row : (c : Answered) (s : List ℕ) (cs : List Answered) → length (c .transfer) ≤ 64 → Answering s cs → Answering (recordBytes (c .id) (c .result) [] (c .transfer) ++ s) (c ∷ cs)
 unfolding answersIn answeredOf answers recordBytes
 answering-row c s cs l w =
-    let r : List ℕ = recordBytes (c .id) (c .result) [] (c .transfer) in
     let h : length {A = ℕ} [] ≤ 64 = omega arith in
     let m = record-length (c .id) (c .result) [] (c .transfer) h l in
-    let f = records-front (recordBytes (c .id) (c .result) [] (c .transfer)) s m in
-    let n = length-append (recordBytes (c .id) (c .result) [] (c .transfer)) s in
-    let k = w .whole in
     let q = transfer-back (c .id) (c .result) [] (c .transfer) h l in
     let b = w .back in
-    record {
-      whole = omega arith;
-      form = rw f (both-of _ _ (fields-good (c .id) (c .result) [] (c .transfer) h l) (w .form));
-      back = ap (map answeredOf) f ∙ (λ i. record { id = c .id; result = c .result; transfer = q i } ∷ b i);
-    }
+    in-front answers answersIn (recordBytes (c .id) (c .result) [] (c .transfer)) s cs (c ∷ cs) m (fields-good (c .id) (c .result) [] (c .transfer) h l)
+    (ap (map answeredOf) (records-front (recordBytes (c .id) (c .result) [] (c .transfer)) s m) ∙ (λ i. record { id = c .id; result = c .result; transfer = q i } ∷ b i)) w
 
 answering : (cs : List Answered) → all answeredOk cs ≡ true → Answering (answerSheetOf cs) cs
 unfolding answerSheetOf answeredOk answersIn recordsOf
-answering [] k = record { whole = refl; form = refl; back = refl }
+answering [] k = record { whole = refl; formed = refl; back = refl }
 answering (c ∷ cs) k =
     let o : (odd (c .id) && (leb (c .result) 4 && transferNameOk (c .result) (c .transfer))) ≡ true = left-of _ _ k in
     let l = transfer-fits (c .result) (c .transfer) (right-of (leb (c .result) 4) _ (right-of (odd (c .id)) _ o)) in
@@ -358,4 +358,4 @@ module _ (cs : List Answered) (k : allAnsweredOk cs ≡ true) where
   unfolding answersOk
   answered-answers =
       let w = answered-sheet in
-      both-of _ _ (eq-eqb (length (answerSheetOf cs) % 132) 0 (w .whole)) (both-of _ _ (w .form) (ap allAnsweredOk (w .back) ∙ k))
+      both-of _ _ (eq-eqb (length (answerSheetOf cs) % 132) 0 (w .whole)) (both-of _ _ (w .formed) (ap allAnsweredOk (w .back) ∙ k))

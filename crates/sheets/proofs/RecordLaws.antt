@@ -17,8 +17,8 @@ use Rattle.octets.specs.Put.{put, Placed}
 use Rattle.octets.specs.Slice.{PartOf}
 use Rattle.octets.proofs.PutLaws.{put-out, put-length}
 use Rattle.octets.proofs.SliceLaws.{part-of-part, place-from}
-use Rattle.sheets.specs.Sheet.{field, recordBytes, cap, abstractOf, transferOf}
-use Rattle.sheets.specs.Record.{recordOf, recordAt, abstractAt, transferAt, nameStart, goesOnAt}
+use Rattle.sheets.specs.Sheet.{field, recordBytes, cap, nameIn, abstractOf, transferOf}
+use Rattle.sheets.specs.Record.{recordOf, recordAt, nameAt, abstractAt, transferAt, nameStart, goesOnAt}
 
 -- ---- `fill_record`: names put into zeros
 
@@ -100,13 +100,8 @@ cap-high n h = simp (lt-leb n 64 h)
 
 pub ruleset cap-laws = (needs, cap-low, cap-high)
 
-pub abstract-is : (r : List ℕ) (n : ℕ) → n ≡ cap (getD r 2 0) → take (4 + n - 4) (drop 4 r) ≡ abstractOf r
-unfolding abstractOf
-abstract-is r n e = rw (add-sub-cancel-left, e)
-
-pub transfer-is : (r : List ℕ) (n : ℕ) → n ≡ cap (getD r 3 0) → take (68 + n - 68) (drop 68 r) ≡ transferOf r
-unfolding transferOf
-transfer-is r n e = rw (add-sub-cancel-left, e)
+pub name-is : (l b : ℕ) (r : List ℕ) (n : ℕ) → n ≡ cap (getD r l 0) → take (b + n - b) (drop b r) ≡ nameIn l b r
+name-is l b r n e = rw (add-sub-cancel-left, e)
 
 pub part-is : (s : List ℕ) (at n : ℕ) → take (at + n - at) (drop at s) ≡ take n (drop at s)
 part-is s at n = rw add-sub-cancel-left
@@ -114,7 +109,7 @@ part-is s at n = rw add-sub-cancel-left
 pub part-long : (s : List ℕ) (at n : ℕ) → at + n ≤ length s → length (take (at + n - at) (drop at s)) ≡ n
 part-long s at n h = rw add-sub-cancel-left (length-take-le n (drop at s) (omega (arith, length-drop at s)))
 
-pub ruleset part-laws = (needs, part-is, part-long, abstract-is, transfer-is)
+pub ruleset part-laws = (needs, part-is, part-long, name-is)
 
 -- a name that a record gives fits its field
 cap-most : (n : ℕ) → cap n ≤ 64
@@ -128,30 +123,30 @@ cap-most n = go (leb n 64) refl
 cut-at : (n : ℕ) (l : List ℕ) → length (take (cap n) l) ≤ 64
 cut-at n l = let c = cap-most n in omega (arith, length-take (cap n) l)
 
-pub abstract-short : (s : List ℕ) (at : ℕ) → length (abstractAt s at) ≤ 64
-unfolding abstractAt abstractOf
-abstract-short s at = go (leb (at + 132) (length s))
+name-short : (l b : ℕ) (s : List ℕ) (at : ℕ) → length (nameAt l b s at) ≤ 64
+unfolding nameAt
+name-short l b s at = go (leb (at + 132) (length s))
   where
-    go : (b : Bool) → length (cond b (take (cap (getD (recordAt s at) 2 0)) (drop 4 (recordAt s at))) []) ≤ 64
-    go true = cut-at (getD (recordAt s at) 2 0) (drop 4 (recordAt s at))
+    go : (d : Bool) → length (cond d (nameIn l b (recordAt s at)) []) ≤ 64
+    go true = cut-at (getD (recordAt s at) l 0) (drop b (recordAt s at))
     go false = omega arith
 
+pub abstract-short : (s : List ℕ) (at : ℕ) → length (abstractAt s at) ≤ 64
+unfolding abstractAt
+abstract-short = name-short 2 4
+
 pub transfer-short : (s : List ℕ) (at : ℕ) → length (transferAt s at) ≤ 64
-unfolding transferAt transferOf
-transfer-short s at = go (leb (at + 132) (length s))
-  where
-    go : (b : Bool) → length (cond b (take (cap (getD (recordAt s at) 3 0)) (drop 68 (recordAt s at))) []) ≤ 64
-    go true = cut-at (getD (recordAt s at) 3 0) (drop 68 (recordAt s at))
-    go false = omega arith
+unfolding transferAt
+transfer-short = name-short 3 68
 
 -- ---- the record at a place
 module _ (s : List ℕ) (at : ℕ) where
   pub abstract-here : at + 132 ≤ length s → abstractAt s at ≡ abstractOf (recordAt s at)
-  unfolding abstractAt
+  unfolding abstractAt nameAt abstractOf
   abstract-here h = simp (le-leb (at + 132) (length s) h)
 
   pub transfer-here : at + 132 ≤ length s → transferAt s at ≡ transferOf (recordAt s at)
-  unfolding transferAt
+  unfolding transferAt nameAt transferOf
   transfer-here h = simp (le-leb (at + 132) (length s) h)
 
   -- none stands there
@@ -163,35 +158,21 @@ module _ (s : List ℕ) (at : ℕ) where
   unfolding nameStart
   start-past k h l = simp (lt-leb (at + 132) (length s) (omega arith))
 
-  pub abstract-none : length s < 132 → take (0 - 0) (drop 0 s) ≡ abstractAt s at
-  unfolding abstractAt
-  abstract-none h = simp (lt-leb (at + 132) (length s) (omega arith))
+  pub name-none : (l b : ℕ) → length s < 132 → take (0 - 0) (drop 0 s) ≡ nameAt l b s at
+  unfolding nameAt
+  name-none l b h = simp (lt-leb (at + 132) (length s) (omega arith))
 
-  pub abstract-past : 132 ≤ length s → length s - 132 < at → take (0 - 0) (drop 0 s) ≡ abstractAt s at
-  unfolding abstractAt
-  abstract-past h l = simp (lt-leb (at + 132) (length s) (omega arith))
-
-  pub transfer-none : length s < 132 → take (0 - 0) (drop 0 s) ≡ transferAt s at
-  unfolding transferAt
-  transfer-none h = simp (lt-leb (at + 132) (length s) (omega arith))
-
-  pub transfer-past : 132 ≤ length s → length s - 132 < at → take (0 - 0) (drop 0 s) ≡ transferAt s at
-  unfolding transferAt
-  transfer-past h l = simp (lt-leb (at + 132) (length s) (omega arith))
+  pub name-past : (l b : ℕ) → 132 ≤ length s → length s - 132 < at → take (0 - 0) (drop 0 s) ≡ nameAt l b s at
+  unfolding nameAt
+  name-past l b h k = simp (lt-leb (at + 132) (length s) (omega arith))
 
 -- a name of a whole record, as a part of the record's own part
-module _ (s r x : RefT (List ℕ)) (at : ℕ) (h : 132 ≤ length (now s)) (l : at ≤ length (now s) - 132) (e : PartOf s at (recordAt (now s) at) r) where
-  start-found : (k : ℕ) → at + k ≡ nameStart (now s) at k
-  unfolding nameStart
-  start-found k = simp (le-leb (at + 132) (length (now s)) (omega arith))
+pub name-found : (s r x : RefT (List ℕ)) (l b at : ℕ) → 132 ≤ length (now s) → at ≤ length (now s) - 132 → PartOf s at (recordAt (now s) at) r
+    → PartOf r b (nameIn l b (now r)) x → PartOf s (nameStart (now s) at b) (nameAt l b (now s) at) x
+unfolding nameStart nameAt
+name-found s r x l b at h k e p = rw (le-leb (at + 132) (length (now s)) (omega arith), ← e .bytes) (part-of-part e p)
 
-  pub abstract-found : PartOf r 4 (abstractOf (now r)) x → PartOf s (nameStart (now s) at 4) (abstractAt (now s) at) x
-  abstract-found p = rw (← start-found 4, abstract-here (now s) at (omega arith), ← e .bytes) (part-of-part e p)
-
-  pub transfer-found : PartOf r 68 (transferOf (now r)) x → PartOf s (nameStart (now s) at 68) (transferAt (now s) at) x
-  transfer-found p = rw (← start-found 68, transfer-here (now s) at (omega arith), ← e .bytes) (part-of-part e p)
-
-pub ruleset at-laws = (needs, abstract-none, abstract-past, transfer-none, transfer-past, start-none, start-past, place-from, abstract-found, transfer-found)
+pub ruleset at-laws = (needs, name-none, name-past, start-none, start-past, place-from, name-found)
 
 -- ---- `goes_on`
 module _ (s : List ℕ) (at : ℕ) where

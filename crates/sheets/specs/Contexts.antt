@@ -3,7 +3,7 @@ use Prim.Native.Nat.{ℕ}
 use mathlib.Core.Bool.{Bool, _&&_}
 use mathlib.Core.List.{List, map}
 use lib.ListN.{length}
-use lib.Dec.{leb, eqb}
+use lib.Dec.{leb}
 use Rattle.octets.specs.Octets.{odd}
 use Rattle.laws.specs.Lists.{all, distinct}
 use Rattle.names.specs.Name.{nameOk}

@@ -7,6 +7,7 @@ use mathlib.Core.List.{List, [], _∷_, _++_, map}
 use lib.ListN.{length, take, drop, getD, replicate}
 use lib.Dec.{leb, eqb}
 use Rattle.laws.specs.Lists.{all, records, sameBytes}
+use Rattle.numbers.specs.Lengths.{RECORD}
 use Rattle.octets.specs.Octets.{odd}
 use Rattle.names.specs.Name.{nameOk}
 use Rattle.sheets.specs.Contexts.{Context, Answered, contextsOk, allAnsweredOk}
@@ -36,7 +37,7 @@ answerSheetOf (c ∷ cs) = recordBytes (c .id) (c .result) [] (c .transfer) ++ a
 -- ---- from bytes to contexts
 
 unfoldable pub recordsOf : List ℕ → List (List ℕ)
-recordsOf s = records 132 (length s / 132) s
+recordsOf s = records RECORD (length s / RECORD) s
 
 abbrev pub recordId : List ℕ → ℕ
 recordId r = getD r 0 0
@@ -45,11 +46,15 @@ recordId r = getD r 0 0
 unfoldable pub cap : ℕ → ℕ
 cap n = cond (leb n 64) n 64
 
+-- the name of a record whose length is byte l of it, and whose field starts behind b bytes
+abbrev pub nameIn : ℕ → ℕ → List ℕ → List ℕ
+nameIn l b r = take (cap (getD r l 0)) (drop b r)
+
 unfoldable pub abstractOf : List ℕ → List ℕ
-abstractOf r = take (cap (getD r 2 0)) (drop 4 r)
+abstractOf r = nameIn 2 4 r
 
 unfoldable pub transferOf : List ℕ → List ℕ
-transferOf r = take (cap (getD r 3 0)) (drop 68 r)
+transferOf r = nameIn 3 68 r
 
 -- the first of the contexts goes on a run that the record r begins
 unfoldable pub goesOn : List ℕ → List Context → Bool
@@ -110,7 +115,7 @@ answers r = eqb (getD r 2 0) 0 && fieldsOk r
 
 -- a proposal to be sent: no part record, and its contexts are good; that no ID comes twice among these says that none starts a second run
 unfoldable pub proposalOk : List ℕ → Bool
-proposalOk s = eqb (length s % 132) 0 && (all proposes (recordsOf s) && contextsOk (contextsIn s))
+proposalOk s = eqb (length s % RECORD) 0 && (all proposes (recordsOf s) && contextsOk (contextsIn s))
 
 unfoldable pub answersOk : List ℕ → Bool
-answersOk s = eqb (length s % 132) 0 && (all answers (recordsOf s) && allAnsweredOk (answersIn s))
+answersOk s = eqb (length s % RECORD) 0 && (all answers (recordsOf s) && allAnsweredOk (answersIn s))

@@ -5,12 +5,11 @@ ghost use lib.ListN.{length};
 ghost use Rattle.laws.specs.Lists.{all};
 ghost use Rattle.sheets.specs.Contexts.{transferNameOk};
 ghost use Rattle.sheets.specs.Sheet.{recordsOf, zero?, fieldOk, fieldsOk, proposalRecord, proposalOk, answersOk};
-ghost use Rattle.sheets.specs.Private.OneRecord.{answerRecord, recordOk};
+ghost use Rattle.sheets.specs.Private.OneRecord.{answerRecord, recordOk, sheetOk};
 use crate::ids::ids_differ;
 use crate::ids::runs_differ;
-use crate::record::abstract_of;
+use crate::record::name_in;
 use crate::record::record_at;
-use crate::record::transfer_of;
 
 fn zeros(s: &[u8]) -> bool
     ensures { λ r. ⌜ r ≡ all zero? (now (s .entry)) ⌝ }
@@ -60,10 +59,10 @@ fn proposal_record(r: &[u8]) -> bool
     if r[0] % 2 != 1 {
         return false;
     }
-    if !names::name_ok(abstract_of(r)) {
+    if !names::name_ok(name_in(2, 4, r)) {
         return false;
     }
-    names::name_ok(transfer_of(r))
+    names::name_ok(name_in(3, 68, r))
 }
 
 // The transfer name that goes with a result.
@@ -89,7 +88,7 @@ fn answer_record(r: &[u8]) -> bool
     if 4 < r[1] {
         return false;
     }
-    transfer_name_ok(r[1], transfer_of(r))
+    transfer_name_ok(r[1], name_in(3, 68, r))
 }
 
 // Whether the record may stand in an answer, or in a proposal.
@@ -112,39 +111,40 @@ fn records_ok(answer: bool, s: &[u8]) -> bool
         if !record_ok(answer, record_at(s, at)) {
             return false;
         }
-        at += 132;
+        at += numbers::RECORD;
     }
     true
+}
+
+// Whether the sheet may be sent as an answer, or as a proposal.
+fn sheet_ok(answer: bool, s: &[u8]) -> bool
+    ensures { λ r. ⌜ r ≡ sheetOk answer (now (s .entry)) ⌝ }
+{
+    if s.len() == 0 {
+        return false;
+    }
+    if s.len() % numbers::RECORD != 0 {
+        return false;
+    }
+    if !records_ok(answer, s) {
+        return false;
+    }
+    if answer {
+        return ids_differ(s);
+    }
+    runs_differ(s)
 }
 
 // Whether a proposal of these contexts may be sent.
 pub fn proposal_ok(s: &[u8]) -> bool
     ensures { λ r. ⌜ r ≡ proposalOk (now (s .entry)) ⌝ }
 {
-    if s.len() == 0 {
-        return false;
-    }
-    if s.len() % 132 != 0 {
-        return false;
-    }
-    if !records_ok(false, s) {
-        return false;
-    }
-    runs_differ(s)
+    sheet_ok(false, s)
 }
 
 // Whether these answers may be sent.
 pub fn answers_ok(s: &[u8]) -> bool
     ensures { λ r. ⌜ r ≡ answersOk (now (s .entry)) ⌝ }
 {
-    if s.len() == 0 {
-        return false;
-    }
-    if s.len() % 132 != 0 {
-        return false;
-    }
-    if !records_ok(true, s) {
-        return false;
-    }
-    ids_differ(s)
+    sheet_ok(true, s)
 }

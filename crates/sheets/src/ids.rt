@@ -19,7 +19,7 @@ fn id_later(s: &[u8], from: usize, id: u8) -> bool
         if id == s[at] {
             return true;
         }
-        at += 132;
+        at += numbers::RECORD;
     }
     false
 }
@@ -31,7 +31,7 @@ pub(crate) fn runs_differ(s: &[u8]) -> bool
 {
     let mut at = 0;
     while at < s.len() {
-        let e = at + 132;
+        let e = at + numbers::RECORD;
         if !goes_on(s, at) {
             if id_later(s, e, s[at]) {
                 return false;
@@ -49,7 +49,7 @@ pub(crate) fn ids_differ(s: &[u8]) -> bool
 {
     let mut at = 0;
     while at < s.len() {
-        let e = at + 132;
+        let e = at + numbers::RECORD;
         if id_later(s, e, s[at]) {
             return false;
         }

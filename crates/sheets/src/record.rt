@@ -1,16 +1,19 @@
 // One record of the sheet: made, and looked at.
 ghost use mathlib.Core.Path.{_≡_};
-ghost use Prim.Native.Nat.{_+_, _≤_};
+ghost use Prim.Native.Nat.{_+_, _≤_, _<_};
 ghost use lib.ListN.{length, take};
 ghost use Rattle.octets.specs.Slice.{PartOf};
-ghost use Rattle.sheets.specs.Sheet.{recordBytes, cap, abstractOf, transferOf};
-ghost use Rattle.sheets.specs.Record.{recordOf, recordAt, abstractAt, transferAt, nameStart, goesOnAt};
+ghost use Rattle.sheets.specs.Sheet.{recordBytes, cap, nameIn};
+ghost use Rattle.sheets.specs.Record.{recordOf, recordAt, nameAt, abstractAt, transferAt, nameStart, goesOnAt};
 
-fn fill_record(id: u8, result: u8, a: &[u8], x: &[u8]) -> [u8; 132]
+// Two records.
+const PAIR: usize = 2 * numbers::RECORD;
+
+fn fill_record(id: u8, result: u8, a: &[u8], x: &[u8]) -> [u8; numbers::RECORD]
     requires { ⌜ (length (now a) ≤ 64) × (length (now x) ≤ 64) ⌝ }
     ensures { λ r. ⌜ r ≡ recordBytes id result (now (a .entry)) (now (x .entry)) ⌝ }
 {
-    let mut s = [0u8; 132];
+    let mut s = [0u8; numbers::RECORD];
     s[0] = id;
     s[1] = result;
     s[2] = a.len() as u8;
@@ -31,7 +34,7 @@ fn cut(n: &[u8]) -> &[u8]
 }
 
 // A record with these names; of a name longer than its field the first 64 bytes.
-pub fn record_of(id: u8, result: u8, a: &[u8], x: &[u8]) -> [u8; 132]
+pub fn record_of(id: u8, result: u8, a: &[u8], x: &[u8]) -> [u8; numbers::RECORD]
     ensures { λ r. ⌜ r ≡ recordOf id result (now (a .entry)) (now (x .entry)) ⌝ }
 {
     fill_record(id, result, cut(a), cut(x))
@@ -42,7 +45,7 @@ pub(crate) fn record_at(s: &[u8], at: usize) -> &[u8]
     requires { ⌜ at + 132 ≤ length (now s) ⌝ }
     ensures { λ r. ⌜ PartOf (s .entry) at (recordAt (now (s .entry)) at) r × (length (now r) ≡ 132) ⌝ }
 {
-    let e = at + 132;
+    let e = at + numbers::RECORD;
     &s[at..e]
 }
 
@@ -55,59 +58,54 @@ fn cap_of(n: u8) -> usize
     64
 }
 
-pub(crate) fn abstract_of(r: &[u8]) -> &[u8]
-    requires { ⌜ length (now r) ≡ 132 ⌝ }
-    ensures { λ x. ⌜ PartOf (r .entry) 4 (abstractOf (now (r .entry))) x ⌝ }
+// The name of a record whose length is byte l of it, and whose field starts behind b bytes: 2 and 4 for the abstract name, 3 and 68 for the transfer name.
+pub(crate) fn name_in(l: usize, b: usize, r: &[u8]) -> &[u8]
+    requires { ⌜ (length (now r) ≡ 132) × (l < 4) × (b ≤ 68) ⌝ }
+    ensures { λ x. ⌜ PartOf (r .entry) b (nameIn l b (now (r .entry))) x ⌝ }
 {
-    let e = 4 + cap_of(r[2]);
-    &r[4..e]
+    let e = b + cap_of(r[l]);
+    &r[b..e]
 }
 
-pub(crate) fn transfer_of(r: &[u8]) -> &[u8]
-    requires { ⌜ length (now r) ≡ 132 ⌝ }
-    ensures { λ x. ⌜ PartOf (r .entry) 68 (transferOf (now (r .entry))) x ⌝ }
+// That name of the record at a place, its own part of the sheet; the empty part at 0 where no whole record starts there.
+fn name_at(l: usize, b: usize, s: &[u8], at: usize) -> &[u8]
+    requires { ⌜ (l < 4) × (b ≤ 68) ⌝ }
+    ensures { λ r. ⌜ PartOf (s .entry) (nameStart (now (s .entry)) at b) (nameAt l b (now (s .entry)) at) r ⌝ }
 {
-    let e = 68 + cap_of(r[3]);
-    &r[68..e]
+    if s.len() < numbers::RECORD {
+        return &s[0..0];
+    }
+    if s.len() - numbers::RECORD < at {
+        return &s[0..0];
+    }
+    name_in(l, b, record_at(s, at))
 }
 
 // The abstract name of the record at a place, its own part of the sheet; the empty part at 0 where no whole record starts there.
 pub fn abstract_at(s: &[u8], at: usize) -> &[u8]
     ensures { λ r. ⌜ PartOf (s .entry) (nameStart (now (s .entry)) at 4) (abstractAt (now (s .entry)) at) r ⌝ }
 {
-    if s.len() < 132 {
-        return &s[0..0];
-    }
-    if s.len() - 132 < at {
-        return &s[0..0];
-    }
-    abstract_of(record_at(s, at))
+    name_at(2, 4, s, at)
 }
 
 // The transfer name of the record at a place, its own part of the sheet; the empty part at 0 where no whole record starts there.
 pub fn transfer_at(s: &[u8], at: usize) -> &[u8]
     ensures { λ r. ⌜ PartOf (s .entry) (nameStart (now (s .entry)) at 68) (transferAt (now (s .entry)) at) r ⌝ }
 {
-    if s.len() < 132 {
-        return &s[0..0];
-    }
-    if s.len() - 132 < at {
-        return &s[0..0];
-    }
-    transfer_of(record_at(s, at))
+    name_at(3, 68, s, at)
 }
 
 // Whether the record behind the one at a place goes on its run.
 pub fn goes_on(s: &[u8], at: usize) -> bool
     ensures { λ r. ⌜ r ≡ goesOnAt (now (s .entry)) at ⌝ }
 {
-    if s.len() < 264 {
+    if s.len() < PAIR {
         return false;
     }
-    if s.len() - 264 < at {
+    if s.len() - PAIR < at {
         return false;
     }
-    let e = at + 132;
+    let e = at + numbers::RECORD;
     if s[at] != s[e] {
         return false;
     }

@@ -13,30 +13,28 @@ use Rattle.contents.specs.Contents.{topGood}
 abbrev pub wrong : ℕ
 wrong = 9
 
--- ---- in a 20H
+-- one item of type `first`, one or more of type `many`, one of type `last`. 0: none yet; 1: after the first; 2: after one of the many; 3: after the last
+unfoldable pub next : ℕ → ℕ → ℕ → ℕ → ℕ → ℕ
+next first many last st t =
+    cond (eqb t first) (cond (eqb st 0) 1 wrong)
+    (cond (eqb t many) (cond (eqb st 1) 2 (cond (eqb st 2) 2 wrong))
+    (cond (eqb t last) (cond (eqb st 2) 3 wrong)
+    st))
+
+-- items with good bodies in that order, up to a state
+abbrev pub inOrder : (ℕ → List ℕ → Bool) → ℕ → ℕ → ℕ → ℕ → Rule
+inOrder good first many last end = record { good = good; next = next first many last; last = end }
+
+-- ---- in a 20H, where nothing comes behind the 40H: `next` looks for `many` before it looks for `last`
 unfoldable pub subGood : ℕ → List ℕ → Bool
 subGood t b = cond (eqb t 0x30) (nameOk b) (cond (eqb t 0x40) (nameOk b) true)
 
--- 0: none yet; 1: after the 30H; 2: after a 40H
-unfoldable pub subNext : ℕ → ℕ → ℕ
-subNext st t =
-    cond (eqb t 0x30) (cond (eqb st 0) 1 wrong)
-    (cond (eqb t 0x40) (cond (eqb st 1) 2 (cond (eqb st 2) 2 wrong))
-    st)
-
 abbrev pub subRule : Rule
-subRule = record { good = subGood; next = subNext; last = 2 }
+subRule = inOrder subGood 0x30 0x40 0x40 2
 
--- ---- in an RQ or an AC. 0: none yet; 1: after the 10H; 2: after a context; 3: after the 50H
-unfoldable pub topNext : ℕ → ℕ → ℕ → ℕ
-topNext k st t =
-    cond (eqb t 0x10) (cond (eqb st 0) 1 wrong)
-    (cond (eqb t k) (cond (eqb st 1) 2 (cond (eqb st 2) 2 wrong))
-    (cond (eqb t 0x50) (cond (eqb st 2) 3 wrong)
-    st))
-
+-- ---- in an RQ or an AC
 abbrev pub topRule : ℕ → Rule
-topRule k = record { good = topGood k; next = topNext k; last = 3 }
+topRule k = inOrder (topGood k) 0x10 k 0x50 3
 
 -- ---- the IDs
 unfoldable pub idAt : List ℕ → ℕ → ℕ → ℕ

@@ -32,7 +32,7 @@ subs-ok-spec =
     (λ c. search in-order)  -- part-sub-good-end
     (λ c κs. search in-order)  -- sub-good-requires
     (λ c. search in-order)  -- returns-2
-    (λ c κs. search in-order)  -- sub-next-requires
+    (λ c κs. search in-order)  -- next-requires
     (λ c. search in-order)  -- loop-less
     (λ c. search in-order)  -- loop-again
     (λ c. search in-order))  -- returns-3

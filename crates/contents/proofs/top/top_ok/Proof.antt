@@ -32,7 +32,7 @@ top-ok-spec =
     (λ c. search in-order)  -- part-top-good-end
     (λ c κs. search in-order)  -- top-good-requires
     (λ c. search in-order)  -- returns-2
-    (λ c κs. search in-order)  -- top-next-requires
+    (λ c κs. search in-order)  -- next-requires
     (λ c. search in-order)  -- loop-less
     (λ c. search in-order)  -- loop-again
     (λ c. search in-order))  -- returns-3

@@ -1,16 +1,14 @@
 -- `answers_ok` meets its contract.
 -- Assumes nothing.
-use Rattle.sheets.proofs.GoodLaws.{answers-laws}
+use borrow.Author.Needs.{needs}
+use Rattle.sheets.specs.Private.OneRecord.{sheetOk}
 use Rattle.sheets.proofs.good.answers_ok.Statement.{statement}
 use Rattle.sheets.proofs.good.answers_ok.Tie as tie
 
 pub answers-ok-spec : {M : Type 1} → statement M
+unfolding sheetOk
 answers-ok-spec =
     tie.close
     (tie.spec
-    (λ c. search answers-laws)  -- returns
-    (λ c. search answers-laws)  -- returns-2
-    (λ c κs. search answers-laws)  -- records-ok-requires
-    (λ c. search answers-laws)  -- returns-3
-    (λ c κs. search answers-laws)  -- ids-differ-requires
-    (λ c. search answers-laws))  -- returns-4
+    (λ c κs. search needs)  -- sheet-ok-requires
+    (λ c. search needs))  -- returns

@@ -1,12 +1,12 @@
--- `contents::top_next` meets its contract. Assumes nothing.
-use Rattle.contents.specs.Private.Order.{topNext}
+-- `contents::next` meets its contract. Assumes nothing.
+use Rattle.contents.specs.Private.Order.{next}
 use Rattle.laws.proofs.Tests.{follow}
-use Rattle.contents.proofs.top.top_next.Statement.{statement}
-use Rattle.contents.proofs.top.top_next.Tie as tie
+use Rattle.contents.proofs.order.next.Statement.{statement}
+use Rattle.contents.proofs.order.next.Tie as tie
 
-pub top-next-spec : {M : Type 1} → statement M
-unfolding topNext
-top-next-spec =
+pub next-spec : {M : Type 1} → statement M
+unfolding next
+next-spec =
     tie.close
     (tie.spec
     (λ c. search follow)  -- returns

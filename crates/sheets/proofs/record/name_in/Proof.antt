@@ -1,11 +1,11 @@
--- `abstract_of` meets its contract.
+-- `name_in` meets its contract.
 -- Assumes nothing.
 use Rattle.sheets.proofs.RecordLaws.{part-laws}
-use Rattle.sheets.proofs.record.abstract_of.Statement.{statement}
-use Rattle.sheets.proofs.record.abstract_of.Tie as tie
+use Rattle.sheets.proofs.record.name_in.Statement.{statement}
+use Rattle.sheets.proofs.record.name_in.Tie as tie
 
-pub abstract-of-spec : {M : Type 1} → statement M
-abstract-of-spec =
+pub name-in-spec : {M : Type 1} → statement M
+name-in-spec =
     tie.close
     (tie.spec
     (λ c. search part-laws)  -- shared-slice-read-cap-of
