@@ -68,9 +68,9 @@ items-long (c ∷ cs) =
     let r = items-long cs in
     omega arith
 
-frame-long : (f : RqFields) → length (itemsBytes 0x20 (map contextBody (contextsIn (f .sheet)))) + 6 ≤ length (rqForm f .pdu)
+pdu-long : (f : RqFields) → length (itemsBytes 0x20 (map contextBody (contextsIn (f .sheet)))) + 6 ≤ length (rqForm f .pdu)
 unfolding rqForm associateBytes pduBytes associateItems rqPdu
-frame-long f =
+pdu-long f =
     let a = length-append (f .called ++ (f .calling ++ replicate 32 0)) (associateItems (rqPdu f)) in
     let b = length-append (itemBytes 0x10 (f .application)) (itemsBytes 0x20 (map contextBody (contextsIn (f .sheet))) ++ itemBytes 0x50 (joined (rqPdu f .user))) in
     let c = length-append (itemsBytes 0x20 (map contextBody (contextsIn (f .sheet)))) (itemBytes 0x50 (joined (rqPdu f .user))) in
@@ -84,7 +84,7 @@ many-records f room g h =
     let l = sheet-long (contextsIn (f .sheet)) k in
     let b = ap length (proposal-back (f .sheet) s) in
     let i = items-long (contextsIn (f .sheet)) in
-    let n = frame-long f in
+    let n = pdu-long f in
     refusal-5 (rqForm f) room g (omega arith)
 
 -- whatever the other records, and however many
