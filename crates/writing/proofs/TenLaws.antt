@@ -30,29 +30,30 @@ ten-is n w e = ap tenOf (sym e)
 pub ten-last : (w : ℕ) → 1 ≤ w → w ≤ 7 → (w ≡ 1 → ⊥) → (w ≡ 2 → ⊥) → (w ≡ 3 → ⊥) → (w ≡ 4 → ⊥) → (w ≡ 5 → ⊥) → (w ≡ 6 → ⊥) → tenOf TEN-RELEASE-RP ≡ tenOf w
 ten-last w h l a b c d e f = ten-is TEN-RELEASE-RP w (omega arith)
 
--- ---- `ten_len`, `write_ten`
-ten-none : (w : ℕ) → w ≡ NO-TEN → tenOf w ≡ []
+-- ---- `ten_len`: each of the seven has ten bytes
+pub len-none : (w : ℕ) → w ≡ NO-TEN → 0 ≡ length (tenOf w)
 unfolding tenOf tens
-ten-none w e = rw e
+len-none w e = rw e
 
-ten-past : (w : ℕ) → TEN-RELEASE-RP < w → tenOf w ≡ []
+pub len-past : (w : ℕ) → TEN-RELEASE-RP < w → 0 ≡ length (tenOf w)
 unfolding tenOf tens
-ten-past w h = List·getD-eq-default tens [] h
+len-past w h = ap length (sym (List·getD-eq-default tens [] h))
 
--- each of the seven has ten bytes
-ten-long : (w : ℕ) → (w ≡ NO-TEN → ⊥) → w ≤ TEN-RELEASE-RP → length (tenOf w) ≡ TEN
+pub len-ten : (w : ℕ) → (w ≡ NO-TEN → ⊥) → w ≤ TEN-RELEASE-RP → TEN ≡ length (tenOf w)
 unfolding tenOf tens
-ten-long zero n l = absurd (n refl)
-ten-long (suc w) n l = eqb-true _ _ (holds _ (below 7 (λ k. eqb (length (tenOf (suc k))) TEN) tt w (omega arith)))
+len-ten zero n l = absurd (n refl)
+len-ten (suc w) n l = eqb-true _ _ (holds _ (below 7 (λ k. eqb TEN (length (tenOf (suc k)))) tt w (omega arith)))
+
+pub ruleset len-laws = (needs, len-none, len-past, len-ten)
 
 -- no number has more
-pub ten-length : (w : ℕ) → length (tenOf w) ≤ 10
-ten-length w = go (eqb w 0) refl (leb w 7) refl
+pub ten-length : (w : ℕ) → length (tenOf w) ≤ TEN
+ten-length w = go (eqb w NO-TEN) refl (leb w TEN-RELEASE-RP) refl
   where
-    go : (a : Bool) → eqb w 0 ≡ a → (b : Bool) → leb w 7 ≡ b → length (tenOf w) ≤ 10
-    go true p b q = rw (ten-none w (eqb-true _ _ p)) (omega arith)
-    go false p true q = omega (arith, ten-long w (eqb-false _ _ p) (leb-true _ _ q))
-    go false p false q = rw (ten-past w (leb-false _ _ q)) (omega arith)
+    go : (a : Bool) → eqb w NO-TEN ≡ a → (b : Bool) → leb w TEN-RELEASE-RP ≡ b → length (tenOf w) ≤ TEN
+    go true p b q = omega (arith, len-none w (eqb-true _ _ p))
+    go false p true q = omega (arith, len-ten w (eqb-false _ _ p) (leb-true _ _ q))
+    go false p false q = omega (arith, len-past w (leb-false _ _ q))
 
 -- ---- what `write_ten` leaves where there is room: the bytes at the start
 module _ (w : ℕ) (o o′ : List ℕ) (n : ℕ) (P : Placed o 0 (tenOf w) n o′) (h : length (tenOf w) ≤ length o) where
@@ -70,33 +71,21 @@ module _ (w room : ℕ) where
   pub own-fine : length (tenOf w) ≤ room → formRefusal (goodForm (tenOf w)) room ≡ NOT-REFUSED
   own-fine h = refusal-0 (goodForm (tenOf w)) room refl (omega (arith, ten-length w)) h
 
-module _ (w : ℕ) where
-  pub len-none : w ≡ 0 → 0 ≡ length (tenOf w)
-  len-none e = sym (ap length (ten-none w e))
+-- ---- `write_ten`: a number that has bytes is one of the seven
+pub some-ten : (w n : ℕ) → n ≡ length (tenOf w) → (n ≡ 0 → ⊥) → 1 ≤ w
+some-ten zero n e k = absurd (k (e ∙ sym (len-none zero refl)))
+some-ten (suc w) n e k = omega arith
 
-  pub len-past : 7 < w → 0 ≡ length (tenOf w)
-  len-past h = sym (ap length (ten-past w h))
-
-  pub len-ten : (w ≡ 0 → ⊥) → w ≤ 7 → 10 ≡ length (tenOf w)
-  len-ten n l = sym (ten-long w n l)
-
-pub ruleset len-laws = (needs, len-none, len-past, len-ten)
+pub within-seven : (w n : ℕ) → n ≡ length (tenOf w) → (n ≡ 0 → ⊥) → w ≤ TEN-RELEASE-RP
+within-seven w n e k = go (leb w TEN-RELEASE-RP) refl
+  where
+    go : (b : Bool) → leb w TEN-RELEASE-RP ≡ b → w ≤ TEN-RELEASE-RP
+    go true q = leb-true w _ q
+    go false q = absurd (k (e ∙ sym (len-past w (leb-false w _ q))))
 
 no-bytes : (l : List ℕ) → length l ≡ 0 → l ≡ []
 no-bytes [] e = refl
 no-bytes (x ∷ l) e = absurd (omega arith)
-
--- a number that has bytes is one of the seven
-pub some-ten : (w n : ℕ) → n ≡ length (tenOf w) → (n ≡ 0 → ⊥) → 1 ≤ w
-some-ten zero n e k = absurd (k (e ∙ ap length (ten-none zero refl)))
-some-ten (suc w) n e k = omega arith
-
-pub within-seven : (w n : ℕ) → n ≡ length (tenOf w) → (n ≡ 0 → ⊥) → w ≤ 7
-within-seven w n e k = go (leb w 7) refl
-  where
-    go : (b : Bool) → leb w 7 ≡ b → w ≤ 7
-    go true q = leb-true w 7 q
-    go false q = absurd (k (e ∙ ap length (ten-past w (leb-false w 7 q))))
 
 module _ (o : List ℕ) where
   nothing-placed : Placed o 0 [] 0 o

@@ -2,6 +2,7 @@
 ghost use mathlib.Core.Path.{_≡_};
 ghost use mathlib.Core.List.{_∷_};
 ghost use Prim.Native.Nat.{_≤_};
+ghost use Rattle.numbers.specs.Lengths.{LONGEST};
 ghost use Rattle.octets.specs.Octets.{four};
 ghost use Rattle.writing.specs.Fields.{itemsOf};
 ghost use Rattle.writing.specs.Form.{Wrote, mostOf, dataForm};
@@ -17,7 +18,7 @@ fn header(kind: u8, n: u32) -> [u8; 6]
 
 // The greatest PDU-length that may be sent to a peer with this maximum.
 fn most_of(peer: u32) -> usize
-    ensures { λ r. ⌜ (r ≡ mostOf peer) × (r ≤ 16384) ⌝ }
+    ensures { λ r. ⌜ (r ≡ mostOf peer) × (r ≤ LONGEST) ⌝ }
 {
     let most = peer as usize;
     if most == 0 {

@@ -2,9 +2,10 @@
 ghost use mathlib.Core.Path.{_≡_};
 ghost use Prim.Native.Nat.{_≤_};
 ghost use lib.ListN.{length};
+ghost use Rattle.numbers.specs.Lengths.{TEN};
 ghost use Rattle.octets.specs.Put.{Placed};
 ghost use Rattle.writing.specs.Fields.{rejectOf, abortOf, abortGood};
-ghost use Rattle.writing.specs.Ten.{tenOf};
+ghost use Rattle.writing.specs.Ten.{TEN-RELEASE-RP, tenOf};
 ghost use Rattle.writing.specs.Form.{Wrote, goodForm, rejectForm, releaseRqForm, releaseRpForm, abortForm};
 use crate::Sent;
 
@@ -26,7 +27,7 @@ pub const TEN_RELEASE_RQ: u8 = 6;
 pub const TEN_RELEASE_RP: u8 = 7;
 
 fn ten_of(which: u8) -> [u8; 10]
-    requires { ⌜ (1 ≤ which) × (which ≤ 7) ⌝ }
+    requires { ⌜ (1 ≤ which) × (which ≤ TEN-RELEASE-RP) ⌝ }
     ensures { λ r. ⌜ r ≡ tenOf which ⌝ }
 {
     match which {
@@ -66,7 +67,7 @@ pub fn write_ten(which: u8, out: &mut [u8]) -> usize
 
 // Writes a PDU of ten bytes with good contents.
 fn send(pdu: &[u8], out: &mut [u8]) -> Sent
-    requires { ⌜ length (now pdu) ≡ 10 ⌝ }
+    requires { ⌜ length (now pdu) ≡ TEN ⌝ }
     ensures { λ r. ⌜ Wrote (goodForm (now (pdu .entry))) (now (out .entry)) r (now (out .exit)) ⌝ }
 {
     if out.len() < numbers::TEN {
@@ -132,7 +133,7 @@ pub fn write_abort(source: u8, reason: u8, out: &mut [u8]) -> Sent
 }
 
 fn send_fixed(which: u8, out: &mut [u8]) -> Sent
-    requires { ⌜ (1 ≤ which) × (which ≤ 7) ⌝ }
+    requires { ⌜ (1 ≤ which) × (which ≤ TEN-RELEASE-RP) ⌝ }
     ensures { λ r. ⌜ Wrote (goodForm (tenOf which)) (now (out .entry)) r (now (out .exit)) ⌝ }
 {
     let pdu = ten_of(which);

@@ -21,7 +21,7 @@ use Rattle.sheets.specs.Record.{recordAt, abstractAt, transferAt, goesOnAt}
 use Rattle.sheets.proofs.RecordLaws.{abstract-here, transfer-here, abstract-short, transfer-short}
 use Rattle.sheets.proofs.RunLaws.{contexts-here, contexts-none, answers-here, answers-none, id-here, result-here, on-here, no-run}
 use Rattle.writing.specs.Wire.{contextBody, answerBody}
-use Rattle.writing_associate.specs.Private.Contexts.{runBytes, openBytes, contextBytes, contextHead, leadBytes, stepBytes, Ready, capped}
+use Rattle.writing_associate.specs.Private.ContextItems.{runBytes, openBytes, contextBytes, contextHead, leadBytes, stepBytes, Ready, capped}
 
 -- ---- one record in front of contexts
 

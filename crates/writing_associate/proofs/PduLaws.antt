@@ -2,7 +2,7 @@
 -- Assumes nothing.
 use Prim.Native.Nat.{ℕ, _+_, _≤_, _<_}
 use native.Mathlib.Omega.{arith}
-use mathlib.Core.Bool.{Bool, true, false, cond}
+use mathlib.Core.Bool.{Bool, true, false}
 use mathlib.Core.List.{List, [], _∷_, _++_, map, append-assoc}
 use mathlib.Core.Path.{_≡_, refl, sym, ap, _∙_}
 use lib.ListN.{length, getD, length-append}
@@ -23,8 +23,8 @@ use Rattle.sheets.specs.Contexts.{Context}
 use Rattle.sheets.specs.Sheet.{contextsIn}
 use Rattle.writing.specs.Wire.{pduBytes, associateItems, associateBytes, ourUser, contextBody}
 use Rattle.writing.specs.Form.{Wrote, goodForm}
-use Rattle.writing_associate.specs.Private.Contexts.{openBytes, contextBytes, capped}
-use Rattle.writing_associate.specs.Private.Pdu.{kindOf, pduOf, base, itemPart, fixedPart, Fit, Measured}
+use Rattle.writing_associate.specs.Private.ContextItems.{openBytes, contextBytes, capped}
+use Rattle.writing_associate.specs.Private.Pdu.{pduKind, pduOf, base, itemPart, fixedPart, Fit, Measured}
 use Rattle.writing.proofs.FormLaws.{wrote-long, wrote-short, wrote-fine}
 
 -- ---- `user`, `base`
@@ -120,7 +120,7 @@ unfolding associateItems pduOf itemPart contextBytes
 pdu-items true middle a s = refl
 pdu-items false middle a s = rw (open-all (contextsIn s))
 
-pub pdu-parts : (k : Bool) (middle a s : List ℕ) (n : ℕ) → length middle ≡ 64 → n ≡ 68 + length (itemPart k a s) → associateBytes (pduOf k middle a s) ≡ fixedPart (kindOf k) n middle ++ itemPart k a s
+pub pdu-parts : (k : Bool) (middle a s : List ℕ) (n : ℕ) → length middle ≡ 64 → n ≡ 68 + length (itemPart k a s) → associateBytes (pduOf k middle a s) ≡ fixedPart (pduKind k) n middle ++ itemPart k a s
 unfolding associateBytes pduBytes fixedPart pduOf
 pdu-parts k middle a s n l e =
     let i = pdu-items k middle a s in
@@ -136,8 +136,8 @@ unfolding base
 pdu-long k middle a s l =
     let n : ℕ = 68 + length (itemPart k a s) in
     let e = ap length (pdu-parts k middle a s n l refl) in
-    let c = length-append (fixedPart (kindOf k) n middle) (itemPart k a s) in
-    let f = fixed-long (kindOf k) n middle l in
+    let c = length-append (fixedPart (pduKind k) n middle) (itemPart k a s) in
+    let f = fixed-long (pduKind k) n middle l in
     let p = part-is k a s in
     let u = user-eight in
     omega arith
@@ -154,7 +154,7 @@ module _ (k : Bool) (o middle a s : List ℕ) (n : ℕ) (w : Measured k middle a
   pub pdu-small : length (itemPart k a s) ≤ LONGEST
   pdu-small = let z = size-is in let r = w .limit in omega arith
 
-  module _ (o₁ : List ℕ) (i kind : ℕ) (e : kind ≡ kindOf k) (p : Put o 0 (fixedPart kind n middle) i o₁) where
+  module _ (o₁ : List ℕ) (i kind : ℕ) (e : kind ≡ pduKind k) (p : Put o 0 (fixedPart kind n middle) i o₁) where
     both-parts : 0 + (length (fixedPart kind n middle) + length (itemPart k a s)) ≤ length o
     both-parts = let z = size-is in let r = w .room in let f = fixed-long kind n middle (w .fit .middle-long) in omega arith
 

@@ -7,7 +7,7 @@ ghost use Rattle.numbers.specs.Lengths.{LONGEST, RECORD};
 ghost use Rattle.octets.specs.Private.Put.{Put};
 ghost use Rattle.sheets.specs.Sheet.{contextsIn};
 ghost use Rattle.sheets.specs.Record.{abstractAt, transferAt};
-ghost use Rattle.writing_associate.specs.Private.Contexts.{runBytes, contextBytes, contextHead, leadBytes, stepBytes, Ready, capped};
+ghost use Rattle.writing_associate.specs.Private.ContextItems.{runBytes, contextBytes, contextHead, leadBytes, stepBytes, Ready, capped};
 use crate::item::put_item;
 
 fn transfer_len(s: &[u8], at: usize) -> usize

@@ -7,7 +7,7 @@ ghost use Rattle.numbers.specs.Lengths.{LONGEST, RECORD};
 ghost use Rattle.octets.specs.Private.Put.{Put};
 ghost use Rattle.writing.specs.Wire.{ourUser, associateBytes};
 ghost use Rattle.writing.specs.Form.{Wrote, goodForm};
-ghost use Rattle.writing_associate.specs.Private.Pdu.{kindOf, pduOf, base as baseOf, itemPart, fixedPart, Fit, Measured};
+ghost use Rattle.writing_associate.specs.Private.Pdu.{pduKind, pduOf, base as baseOf, itemPart, fixedPart, Fit, Measured};
 use crate::contexts::measure;
 use crate::contexts::put_contexts;
 use crate::item::put_item;
@@ -50,7 +50,7 @@ fn put_items(out: &mut [u8], at: usize, answer: bool, application: &[u8], sheet:
 }
 
 fn pdu_kind(answer: bool) -> u8
-    ensures { λ r. ⌜ r ≡ kindOf answer ⌝ }
+    ensures { λ r. ⌜ r ≡ pduKind answer ⌝ }
 {
     if answer {
         return numbers::ASSOCIATE_AC;

@@ -11,15 +11,15 @@ use Rattle.octets.specs.Octets.{four}
 use Rattle.items.specs.Wire.{itemBytes}
 use Rattle.sheets.specs.Sheet.{contextsIn, answersIn}
 use Rattle.writing.specs.Wire.{AssociatePdu, ourUser, contextBody, answerBody}
-use Rattle.writing_associate.specs.Private.Contexts.{contextBytes}
+use Rattle.writing_associate.specs.Private.ContextItems.{contextBytes}
 
-abbrev pub kindOf : Bool → ℕ
-kindOf answer = cond answer ASSOCIATE-AC ASSOCIATE-RQ
+abbrev pub pduKind : Bool → ℕ
+pduKind answer = cond answer ASSOCIATE-AC ASSOCIATE-RQ
 
 unfoldable pub pduOf : Bool → List ℕ → List ℕ → List ℕ → AssociatePdu
 pduOf answer middle application sheet =
     record {
-      kind = kindOf answer;
+      kind = pduKind answer;
       middle = middle;
       application = application;
       context = cond answer 0x21 0x20;

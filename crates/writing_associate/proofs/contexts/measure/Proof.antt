@@ -5,7 +5,7 @@ use mathlib.Core.Bool.{false}
 use mathlib.Core.Path.{_≡_}
 use lib.ListN.{length}
 use Rattle.numbers.specs.Lengths.{LONGEST, RECORD}
-use Rattle.writing_associate.specs.Private.Contexts.{contextBytes}
+use Rattle.writing_associate.specs.Private.ContextItems.{contextBytes}
 use Rattle.writing_associate.proofs.ContextLaws.{measure-laws}
 use Rattle.writing_associate.proofs.contexts.measure.Statement.{statement}
 use Rattle.writing_associate.proofs.contexts.measure.Tie as tie

@@ -5,7 +5,7 @@ use mathlib.Core.Path.{_≡_}
 use lib.ListN.{length, drop}
 use Rattle.numbers.specs.Lengths.{RECORD}
 use Rattle.sheets.specs.Sheet.{contextsIn}
-use Rattle.writing_associate.specs.Private.Contexts.{runBytes}
+use Rattle.writing_associate.specs.Private.ContextItems.{runBytes}
 use Rattle.writing_associate.proofs.ContextLaws.{runAfter, run-laws}
 use Rattle.writing_associate.proofs.contexts.run_size.Statement.{statement}
 use Rattle.writing_associate.proofs.contexts.run_size.Tie as tie
