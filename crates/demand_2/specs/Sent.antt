@@ -10,7 +10,7 @@ use Rattle.laws.specs.Lists.{among}
 use Rattle.judging.specs.Pdu.{kindOf}
 use Rattle.round_trips.specs.Trips.{RqTrip, AcTrip, RejectTrip, DataTrip}
 use Rattle.table.specs.ActionNames.{AE-2, AE-7, AE-8, DT-1, AR-7}
-use Rattle.table.specs.Actions.{doesOf}
+use Rattle.table.specs.Actions.{doesOf, kindSent}
 use Rattle.association.specs.declared.Assoc.{Assoc}
 use Rattle.association.specs.Events.{Local}
 use Rattle.association.specs.Events.{Local.plain, Local.confirm, Local.accept, Local.reject, Local.send}
@@ -23,7 +23,7 @@ bytesSent c = take (c .answer .told .sent) (c .out)
 
 -- the kind of the PDU that an action sends by Tables 9-6 to 9-9, where it leads to this state; 0 for none. AE-6 sends one unless it accepts, which leads to Sta3
 unfoldable pub kindNamed : ℕ → ℕ → ℕ
-kindNamed action state = doesOf action (eqb state 3) false .sends
+kindNamed action state = kindSent (doesOf action (eqb state 3) false .sends)
 
 abbrev pub kindDue : Call → ℕ
 kindDue c = kindNamed (c .answer .told .action) (c .answer .assoc .state)

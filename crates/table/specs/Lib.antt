@@ -2,4 +2,3 @@ pub mod ActionNames
 pub mod EventNames
 pub mod Actions
 pub mod Table
-pub mod Private

@@ -1,6 +1,7 @@
 // Table 9-10 of PS3.8 and the actions of Tables 9-6 to 9-9, as numbers.
 mod actions;
 mod events;
+mod sent;
 
 pub use actions::AA_1;
 pub use actions::AA_2;
@@ -50,12 +51,20 @@ pub use events::RQ_RECEIVED;
 pub use events::TRANSPORT_CLOSED;
 pub use events::TRANSPORT_CONFIRM;
 pub use events::TRANSPORT_INDICATION;
+pub use sent::SENDS_ABORT_PROVIDER;
+pub use sent::SENDS_ABORT_USER;
+pub use sent::SENDS_CONTENTS;
+pub use sent::SENDS_NOTHING;
+pub use sent::SENDS_REJECT_VERSION;
+pub use sent::SENDS_RELEASE_RP;
+pub use sent::SENDS_RELEASE_RQ;
 ghost use mathlib.Core.Path.{_≡_};
 ghost use Prim.Native.Nat.{_+_, _-_, _*_, _≤_, _<_};
 ghost use mathlib.Core.Bool.{false};
-ghost use Rattle.table.specs.Actions.{nextOf, showsOf, artimOf};
+ghost use mathlib.Core.List.{_∷_};
+ghost use lib.ListN.{getD};
+ghost use Rattle.table.specs.Actions.{doesOf, nextOf, showsOf, artimOf, sendsNumber};
 ghost use Rattle.table.specs.Table.{cellOf, isReceived};
-ghost use Rattle.table.specs.Private.Columns.{timerOf, shownOf};
 
 // The actions' numbers (0a DT-2, 14 AR-10, 15 to 1c AA-1 to AA-8): a line to an event, 1 to 19, of states 1 to 13.
 const CELLS: [u8; 247] = *b"\
@@ -100,6 +109,13 @@ const SHOWN: [u8; 28] = *b"\
     \x00\x00\x00\x00\x00\x01\x00\x00\x00\x00\
     \x00\x00\x01\x00\x00\x00\x00\x00";
 
+// For the same actions: the number of what is sent.
+const SENDS: [u8; 28] = *b"\
+    \x00\x01\x00\x00\x00\x02\x01\x01\
+    \x01\x00\
+    \x03\x00\x00\x04\x00\x00\x01\x00\x04\x00\
+    \x05\x00\x00\x00\x00\x00\x06\x06";
+
 fn wide(x: u8) -> usize
     ensures { λ r. ⌜ r ≡ x ⌝ }
 {
@@ -134,8 +150,9 @@ pub fn cell(event: u8, state: u8) -> u8
     CELLS[at]
 }
 
-fn fixed_next(action: u8) -> u8
-    ensures { λ r. ⌜ r ≡ nextOf action false false ⌝ }
+// An action's entry of a column; 0 where there is no such action.
+fn at(column: [u8; 28], action: u8) -> u8
+    ensures { λ r. ⌜ r ≡ getD (0 ∷ column) action 0 ⌝ }
 {
     if action < 1 {
         return 0;
@@ -143,50 +160,37 @@ fn fixed_next(action: u8) -> u8
     if 28 < action {
         return 0;
     }
-    let at = wide(action) - 1;
-    NEXTS[at]
+    let place = wide(action) - 1;
+    column[place]
 }
 
 // The state after an action: `accepts` is asked at AE-6 and `requestor` at AR-8. 0 where there is no such action.
 pub fn next_state(action: u8, accepts: bool, requestor: bool) -> u8
     ensures { λ r. ⌜ r ≡ nextOf action accepts requestor ⌝ }
 {
-    if action == 6 {
+    if action == AE_6 {
         if accepts {
             return 3;
         }
         return 13;
     }
-    if action == 18 {
+    if action == AR_8 {
         if requestor {
             return 9;
         }
         return 10;
     }
-    fixed_next(action)
-}
-
-fn timer_at(action: u8) -> u8
-    ensures { λ r. ⌜ r ≡ timerOf action ⌝ }
-{
-    if action < 1 {
-        return 0;
-    }
-    if 28 < action {
-        return 0;
-    }
-    let at = wide(action) - 1;
-    TIMERS[at]
+    at(NEXTS, action)
 }
 
 // Whether the ARTIM timer runs after an action, where it did or did not before.
 pub fn artim_after(action: u8, accepts: bool, before: bool) -> bool
     ensures { λ r. ⌜ r ≡ artimOf action accepts before ⌝ }
 {
-    if action == 6 {
+    if action == AE_6 {
         return !accepts;
     }
-    let timer = timer_at(action);
+    let timer = at(TIMERS, action);
     if timer == 1 {
         return true;
     }
@@ -196,53 +200,53 @@ pub fn artim_after(action: u8, accepts: bool, before: bool) -> bool
     before
 }
 
-fn shown_at(action: u8) -> u8
-    ensures { λ r. ⌜ r ≡ shownOf action ⌝ }
-{
-    if action < 1 {
-        return 0;
-    }
-    if 28 < action {
-        return 0;
-    }
-    let at = wide(action) - 1;
-    SHOWN[at]
-}
-
 // Whether an action shows the PDU received.
 pub fn shows(action: u8, accepts: bool) -> bool
     ensures { λ r. ⌜ r ≡ showsOf action accepts ⌝ }
 {
-    if action == 6 {
+    if action == AE_6 {
         return accepts;
     }
-    shown_at(action) == 1
+    at(SHOWN, action) == 1
+}
+
+// What an action sends.
+pub fn sends(action: u8, accepts: bool) -> u8
+    ensures { λ r. ⌜ r ≡ sendsNumber (doesOf action accepts false .sends) ⌝ }
+{
+    if action == AE_6 {
+        if accepts {
+            return SENDS_NOTHING;
+        }
+        return SENDS_REJECT_VERSION;
+    }
+    at(SENDS, action)
 }
 
 // Whether bytes bring the event: the rows of PDUs.
 pub fn is_received(event: u8) -> bool
     ensures { λ r. ⌜ r ≡ isReceived event ⌝ }
 {
-    if event == 3 {
+    if event == AC_RECEIVED {
         return true;
     }
-    if event == 4 {
+    if event == RJ_RECEIVED {
         return true;
     }
-    if event == 6 {
+    if event == RQ_RECEIVED {
         return true;
     }
-    if event == 10 {
+    if event == DATA_RECEIVED {
         return true;
     }
-    if event == 12 {
+    if event == RELEASE_RQ_RECEIVED {
         return true;
     }
-    if event == 13 {
+    if event == RELEASE_RP_RECEIVED {
         return true;
     }
-    if event == 16 {
+    if event == ABORT_RECEIVED {
         return true;
     }
-    event == 19
+    event == INVALID_RECEIVED
 }
