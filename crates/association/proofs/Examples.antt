@@ -3,42 +3,41 @@
 use Prim.Native.Nat.{ℕ}
 use mathlib.Core.Bool.{true, false}
 use mathlib.Core.Path.{_≡_, refl}
-use mathlib.Core.List.{[], _∷_}
 use Rattle.laws.specs.Lists.{among}
 use Rattle.writing.specs.Ten.{ABORT-UNRECOGNIZED, ABORT-UNEXPECTED}
 use Rattle.table.specs.ActionNames.{AE-5, AR-3}
+use Rattle.table.specs.EventNames.{RQ-RECEIVED, RELEASE-RQ-RECEIVED, INVALID-RECEIVED}
 use Rattle.table.specs.Actions.{actions, doesOf, nextOf, artimOf}
 use Rattle.table.specs.Table.{table, cellOf, isReceived}
-use Rattle.association.specs.declared.Assoc.{Assoc}
-use Rattle.association.specs.Record.{idle, dropping}
-use Rattle.association.specs.Performing.{requestorAfter, entering, after, abortFor}
+use Rattle.association.specs.Record.{Standing, standing, idle, moved, dropping}
+use Rattle.association.specs.Performing.{keeps, requestorAfter, entering, leaving, after, abortFor}
 use Rattle.association.specs.Machine.{localCell}
 
 -- a requestor, in a state
-abbrev requestor : ℕ → Assoc
-requestor n = record { state = n; gathered = 0; deaf = false; artim = false; requestor = true; «peer_max» = 32768 }
+abbrev requestor : ℕ → Standing
+requestor n = moved n false true (record { accepts = false; «peer_max» = 32768; deaf = false })
 
 -- AR-3 enters Sta1, so mark and peer maximum go
-pub forgets : after AR-3 (requestor 7) (record { accepts = false; «peer_max» = 32768; deaf = false; gathered = 0 }) ≡ idle
-unfolding after entering requestorAfter nextOf artimOf doesOf actions idle
+pub forgets : leaving (after AR-3 (requestor 7) (keeps (requestor 7))) 0 ≡ idle
+unfolding leaving after entering requestorAfter nextOf artimOf doesOf actions idle
 forgets = refl
 
 -- AE-5 sets no mark: AE-1 alone does
-pub no-mark : after AE-5 idle (record { accepts = false; «peer_max» = 0; deaf = false; gathered = 0 }) .requestor ≡ false
+pub no-mark : after AE-5 (standing idle) (keeps (standing idle)) .requestor ≡ false
 unfolding after entering requestorAfter nextOf artimOf doesOf actions idle
 no-mark = refl
 
 -- an invalid PDU of type 08H; a valid RELEASE-RQ where none is expected
-pub type-eight : abortFor 19 8 ≡ ABORT-UNRECOGNIZED
+pub type-eight : abortFor INVALID-RECEIVED 8 ≡ ABORT-UNRECOGNIZED
 unfolding abortFor
 type-eight = refl
 
-pub unexpected : abortFor 12 5 ≡ ABORT-UNEXPECTED
+pub unexpected : abortFor RELEASE-RQ-RECEIVED 5 ≡ ABORT-UNEXPECTED
 unfolding abortFor
 unexpected = refl
 
--- event 6, an RQ, in Sta2: bytes bring it, and it is no local event's number
-pub by-hand : localCell 6 2 ≡ 0
+-- an RQ in Sta2: bytes bring it, and it is no local event's number
+pub by-hand : localCell RQ-RECEIVED 2 ≡ 0
 unfolding localCell isReceived among cellOf table
 by-hand = refl
 

@@ -1,5 +1,6 @@
 pub mod RefusalLaws
 pub mod OrderLaws
+pub mod EventLaws
 pub mod PerformingLaws
 pub mod MarkLaws
 pub mod Examples

@@ -9,13 +9,15 @@ use lib.Dec.{eqb, ltb}
 use lib.ListN.{length}
 use borrow.Author.Tests.{ltb-false, eqb-false}
 use Rattle.laws.proofs.Refusals.{not-due, due-both, due-neither}
+use Rattle.numbers.specs.Refusals.{BLANK-CELL, SHORT-OUTPUT, SHORT-GATHER, BROKEN-RECORD}
+use Rattle.numbers.specs.Lengths.{BUFFER, TEN}
 use Rattle.writing.specs.Form.{formRefusal}
 use Rattle.writing.proofs.FormLaws.{refusal-due}
 use Rattle.association.specs.declared.Assoc.{Assoc}
-use Rattle.association.specs.Record.{broken, badLength}
+use Rattle.association.specs.Record.{Standing, standing, broken, badLength}
 use Rattle.association.specs.Refusals.{recordTests, recordRefusal}
-use Rattle.association.specs.Events.{Local, sendsOf}
-use Rattle.association.specs.Machine.{localAction, formOf, requestTests, requestRefusal}
+use Rattle.association.specs.Events.{Local}
+use Rattle.association.specs.Machine.{localAction, formAt, requestTests, requestRefusal}
 use Rattle.association.specs.Calls.{receiveRefusal, localRefusal}
 
 -- ---- the record's
@@ -29,40 +31,40 @@ module _ (a : Assoc) (g : List ℕ) (least : ℕ) where
   pub passed : recordRefusal a g least ≡ 0 → Passed
   unfolding recordRefusal
   passed z =
-      let p = not-due (broken a) 6 _ (λ e. omega arith) z in
-      let q = not-due (ltb (length g) least) 3 _ (λ e. omega arith) (p .1) in
-      let r = not-due (badLength (a .gathered) g) 6 0 (λ e. omega arith) (q .1) in
+      let p = not-due (broken a) BROKEN-RECORD _ (λ e. omega arith) z in
+      let q = not-due (ltb (length g) least) SHORT-GATHER _ (λ e. omega arith) (p .1) in
+      let r = not-due (badLength (a .gathered) g) BROKEN-RECORD 0 (λ e. omega arith) (q .1) in
       record { whole = p .0; room = ltb-false _ _ (q .0); fits = r .0 }
 
 -- ---- receiving
 module _ (a : Assoc) (g o : List ℕ) where
-  pub receive-steps : receiveRefusal a g o ≡ cond (eqb (recordRefusal a g 16390) 0) (cond (ltb (length o) 10) 2 0) (recordRefusal a g 16390)
+  pub receive-steps : receiveRefusal a g o ≡ cond (eqb (recordRefusal a g BUFFER) 0) (cond (ltb (length o) TEN) SHORT-OUTPUT 0) (recordRefusal a g BUFFER)
   unfolding receiveRefusal recordRefusal
-  receive-steps = due-both (recordTests a g 16390) ((ltb (length o) 10, 2) ∷ []) refl
+  receive-steps = due-both (recordTests a g BUFFER) ((ltb (length o) TEN, SHORT-OUTPUT) ∷ []) refl
 
-  pub receive-passed : receiveRefusal a g o ≡ 0 → (recordRefusal a g 16390 ≡ 0) × (10 ≤ length o)
+  pub receive-passed : receiveRefusal a g o ≡ 0 → (recordRefusal a g BUFFER ≡ 0) × (TEN ≤ length o)
   unfolding receiveRefusal recordRefusal
   receive-passed z =
-      let p = due-neither (recordTests a g 16390) ((ltb (length o) 10, 2) ∷ []) refl z in
-      (p .0, ltb-false _ _ (not-due (ltb (length o) 10) 2 0 (λ e. omega arith) (p .1) .0))
+      let p = due-neither (recordTests a g BUFFER) ((ltb (length o) TEN, SHORT-OUTPUT) ∷ []) refl z in
+      (p .0, ltb-false _ _ (not-due (ltb (length o) TEN) SHORT-OUTPUT 0 (λ e. omega arith) (p .1) .0))
 
 -- ---- a local event
-module _ (a : Assoc) (e : Local) (room : ℕ) where
-  pub request-steps : requestRefusal a e room ≡ cond (eqb (localAction a e) 0) 1 (formRefusal (formOf (localAction a e) (sendsOf a e)) room)
+module _ (s : Standing) (e : Local) (room : ℕ) where
+  pub request-steps : requestRefusal s e room ≡ cond (eqb (localAction s e) 0) BLANK-CELL (formRefusal (formAt s e) room)
   unfolding requestRefusal
-  request-steps = ap (λ (n : ℕ). cond (eqb (localAction a e) 0) 1 n) (refusal-due (formOf (localAction a e) (sendsOf a e)) room)
+  request-steps = ap (λ (n : ℕ). cond (eqb (localAction s e) 0) BLANK-CELL n) (refusal-due (formAt s e) room)
 
   -- its cell is filled, and what it sends is not refused
-  pub request-passed : requestRefusal a e room ≡ 0 → (localAction a e ≡ 0 → ⊥) × (formRefusal (formOf (localAction a e) (sendsOf a e)) room ≡ 0)
+  pub request-passed : requestRefusal s e room ≡ 0 → (localAction s e ≡ 0 → ⊥) × (formRefusal (formAt s e) room ≡ 0)
   request-passed z =
-      let p = not-due (eqb (localAction a e) 0) 1 (formRefusal (formOf (localAction a e) (sendsOf a e)) room) (λ q. omega arith) (sym request-steps ∙ z) in
+      let p = not-due (eqb (localAction s e) 0) BLANK-CELL (formRefusal (formAt s e) room) (λ q. omega arith) (sym request-steps ∙ z) in
       (eqb-false _ _ (p .0), p .1)
 
 module _ (a : Assoc) (g o : List ℕ) (e : Local) where
-  pub local-steps : localRefusal a g o e ≡ cond (eqb (recordRefusal a g (a .gathered)) 0) (requestRefusal a e (length o)) (recordRefusal a g (a .gathered))
+  pub local-steps : localRefusal a g o e ≡ cond (eqb (recordRefusal a g (a .gathered)) 0) (requestRefusal (standing a) e (length o)) (recordRefusal a g (a .gathered))
   unfolding localRefusal recordRefusal requestRefusal
-  local-steps = due-both (recordTests a g (a .gathered)) (requestTests a e (length o)) refl
+  local-steps = due-both (recordTests a g (a .gathered)) (requestTests (standing a) e (length o)) refl
 
-  pub local-passed : localRefusal a g o e ≡ 0 → (recordRefusal a g (a .gathered) ≡ 0) × (requestRefusal a e (length o) ≡ 0)
+  pub local-passed : localRefusal a g o e ≡ 0 → (recordRefusal a g (a .gathered) ≡ 0) × (requestRefusal (standing a) e (length o) ≡ 0)
   unfolding localRefusal recordRefusal requestRefusal
-  local-passed = due-neither (recordTests a g (a .gathered)) (requestTests a e (length o)) refl
+  local-passed = due-neither (recordTests a g (a .gathered)) (requestTests (standing a) e (length o)) refl

@@ -1,12 +1,11 @@
 -- What `search` follows through the tests of refusals 6 and 3.
 -- Assumes nothing.
 use Prim.Native.Nat.{ℕ, _+_, _≤_, _<_}
-use mathlib.Core.Path.{_≡_, refl, sym, _∙_}
-use mathlib.Core.Bool.{Bool, true, false, not, _&&_, _||_, Bool·beq}
+use mathlib.Core.Path.{_≡_, refl}
+use mathlib.Core.Bool.{Bool, true, false, not, Bool·beq}
 use mathlib.Core.List.{List}
-use native.Mathlib.Omega.{arith}
-use lib.Dec.{eqb, leb, ltb}
-use borrow.Author.Tests.{lt-leb, le-leb, lt-ltb, le-ltb, eq-eqb, ne-eqb}
+use lib.Dec.{leb}
+use borrow.Author.Tests.{lt-leb, le-leb}
 use Rattle.laws.proofs.Tests.{and-step, no-here, is-above, is-upto}
 use Rattle.octets.specs.Octets.{be32}
 use Rattle.framing.specs.Framing.{lengthField}

@@ -1,42 +1,47 @@
 -- The machine: at each event the action of its cell of Table 9-10, and what that action does. Buffers, counts and cuts are the engine's (framing).
 use Prim.Native.Nat.{ℕ}
 use mathlib.Core.Bool.{Bool, true, false, cond}
-use mathlib.Core.Option.{Option, none, some}
+use mathlib.Core.Option.{none, some}
 use mathlib.Core.List.{List, [], _∷_}
 use lib.Dec.{eqb}
 use Rattle.laws.specs.Refusals.{firstDue}
+use Rattle.numbers.specs.Refusals.{BLANK-CELL}
+use Rattle.numbers.specs.Lengths.{LONGEST, BUFFER}
+use Rattle.framing.specs.Framing.{Brought, Brought.pdu, Brought.over-length}
 use Rattle.framing.specs.Reference.{Machine, Reaction}
 use Rattle.table.specs.Actions.{showsOf}
+use Rattle.table.specs.EventNames.{INVALID-RECEIVED}
 use Rattle.table.specs.Table.{cellOf, isReceived}
-use Rattle.writing.specs.Form.{Form, formTests}
+use Rattle.writing.specs.Form.{Form, formTests, rqForm, acForm, rejectForm, dataForm}
 use Rattle.writing.specs.Ten.{tenOf, NONE}
-use Rattle.association.specs.declared.Assoc.{Assoc}
-use Rattle.association.specs.Record.{dropping}
-use Rattle.association.specs.Events.{Local, Sends, eventOf, invalidPdu, numberOf, sendsOf}
-use Rattle.association.specs.Events.{Sends.own, Sends.bad, Sends.given}
-use Rattle.association.specs.Performing.{Input, brings, after, sentBy, tenBy}
-use Rattle.association.specs.Performing.{Input.whole, Input.long, Input.bare, Input.contents}
+use Rattle.association.specs.declared.Brings.{Brings}
+use Rattle.association.specs.Record.{Standing, dropping}
+use Rattle.association.specs.Events.{Local, eventOf, numberOf, carries}
+use Rattle.association.specs.Events.{Local.plain, Local.confirm, Local.accept, Local.reject, Local.send}
+use Rattle.association.specs.Performing.{keeps, brings, after, abortBy, tenBy}
 
 -- what a host is told of an event: the action, and the state after
 pub record Seen : Type 0 where
   pub action : ℕ
   pub state : ℕ
 
--- an action at an event
-unfoldable pub doing : ℕ → ℕ → Assoc → Input → Reaction Assoc Seen
-doing action event a i =
-    let b = brings action a i in
-    let next = after action a b in
+-- an action, with what its event brings and the bytes that are sent
+unfoldable pub doing : ℕ → Standing → Brings → List ℕ → Reaction Standing Seen
+doing action s b bytes =
+    let next = after action s b in
     record {
       next = next;
       told = record { action = action; state = next .state };
-      sends = sentBy action event (b .accepts) i;
+      sends = bytes;
       shows = showsOf action (b .accepts);
     }
 
--- the action of the event's cell
-unfoldable pub onEvent : ℕ → Assoc → Input → Reaction Assoc Seen
-onEvent event a i = doing (cellOf event (a .state)) event a i
+-- ---- an event that bytes bring: the action of its cell, which sends a ten-byte PDU or nothing
+unfoldable pub onEvent : ℕ → Standing → Brought → Reaction Standing Seen
+onEvent event s v =
+    let action = cellOf event (s .state) in
+    let b = brings action s v in
+    doing action s b (tenOf (tenBy action (b .accepts) (abortBy event v)))
 
 -- ---- a local event
 
@@ -44,40 +49,44 @@ onEvent event a i = doing (cellOf event (a .state)) event a i
 unfoldable pub localCell : ℕ → ℕ → ℕ
 localCell number state = cond (isReceived number) 0 (cellOf number state)
 
-abbrev pub localAction : Assoc → Local → ℕ
-localAction a e = localCell (numberOf e) (a .state)
+abbrev pub localAction : Standing → Local → ℕ
+localAction s e = localCell (numberOf e) (s .state)
 
-abbrev pub inputOf : Sends → Input
-inputOf own = bare
-inputOf bad = bare
-inputOf (given f) = contents (f .pdu)
+-- by its number alone it sends what its action sends by itself; where it would have contents, they are bad
+unfoldable pub plainForm : ℕ → ℕ → Form
+plainForm number action =
+    cond (carries number)
+    (record { good = false; most = 0; pdu = [] })
+    (record { good = true; most = LONGEST; pdu = tenOf (tenBy action false NONE) })
 
--- the form of what it wants sent
-abbrev pub formOf : ℕ → Sends → Form
-formOf action own = record { good = true; most = 16384; pdu = tenOf (tenBy action false NONE) }
-formOf action bad = record { good = false; most = 0; pdu = [] }
-formOf action (given f) = f
+-- the form of what it sends
+abbrev pub formAt : Standing → Local → Form
+formAt s (plain n) = plainForm n (localCell n (s .state))
+formAt s (confirm f) = rqForm f
+formAt s (accept f) = acForm f
+formAt s (reject f) = rejectForm f
+formAt s (send f) = dataForm (s .peer) f
 
 -- 1: "local event at a blank cell of Table 9-10"; then 4, 5 and 2 for what it sends into an output of so many bytes
-abbrev pub requestTests : Assoc → Local → ℕ → List (Bool × ℕ)
-requestTests a e room = (eqb (localAction a e) 0, 1) ∷ formTests (formOf (localAction a e) (sendsOf a e)) room
+abbrev pub requestTests : Standing → Local → ℕ → List (Bool × ℕ)
+requestTests s e room = (eqb (localAction s e) 0, BLANK-CELL) ∷ formTests (formAt s e) room
 
-unfoldable pub requestRefusal : Assoc → Local → ℕ → ℕ
-requestRefusal a e room = firstDue (requestTests a e room)
+unfoldable pub requestRefusal : Standing → Local → ℕ → ℕ
+requestRefusal s e room = firstDue (requestTests s e room)
 
-unfoldable pub onLocal : Assoc → Local → Reaction Assoc Seen
-onLocal a e = doing (localAction a e) (numberOf e) a (inputOf (sendsOf a e))
+unfoldable pub onLocal : Standing → Local → Reaction Standing Seen
+onLocal s e = doing (localAction s e) s (keeps s) (formAt s e .pdu)
 
--- ---- the machine of the reference. The bytes gathered stand beside its records, whose own count is 0; its output has the room of any PDU, so that 2 never comes
+-- ---- the machine of the reference. Its output has the room of any PDU, so that 2 never comes
 abbrev pub upper : Machine
 upper =
     record {
-      R = Assoc;
+      R = Standing;
       E = Local;
       A = Seen;
-      limit = 16384;
+      limit = LONGEST;
       drops = dropping;
-      onPdu = λ a pdu. onEvent (eventOf a pdu) a (whole pdu);
-      onLong = λ a. onEvent invalidPdu a long;
-      onLocal = λ a e. cond (eqb (requestRefusal a e 16390) 0) (some (onLocal a e)) none;
+      onPdu = λ s p. onEvent (eventOf s p) s (pdu p);
+      onLong = λ s. onEvent INVALID-RECEIVED s over-length;
+      onLocal = λ s e. cond (eqb (requestRefusal s e BUFFER) 0) (some (onLocal s e)) none;
     }

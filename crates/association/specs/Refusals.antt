@@ -6,6 +6,7 @@ use mathlib.Core.List.{List, [], _∷_}
 use lib.ListN.{length}
 use lib.Dec.{ltb}
 use Rattle.laws.specs.Refusals.{firstDue}
+use Rattle.numbers.specs.Refusals.{BROKEN-RECORD, SHORT-GATHER}
 use Rattle.association.specs.declared.Assoc.{Assoc}
 use Rattle.association.specs.declared.Answer.{Answer}
 use Rattle.association.specs.Record.{broken, badLength}
@@ -13,9 +14,9 @@ use Rattle.association.specs.Record.{broken, badLength}
 -- 6 but for L; 3 where the gather buffer has fewer than `least` bytes ("shorter than 16,390 when receiving, or than the gathered count at a local event"); 6 for L
 abbrev pub recordTests : Assoc → List ℕ → ℕ → List (Bool × ℕ)
 recordTests a g least =
-    (broken a, 6)
-    ∷ (ltb (length g) least, 3)
-    ∷ (badLength (a .gathered) g, 6)
+    (broken a, BROKEN-RECORD)
+    ∷ (ltb (length g) least, SHORT-GATHER)
+    ∷ (badLength (a .gathered) g, BROKEN-RECORD)
     ∷ []
 
 unfoldable pub recordRefusal : Assoc → List ℕ → ℕ → ℕ

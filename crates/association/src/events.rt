@@ -8,35 +8,23 @@ ghost use Rattle.association.specs.Machine.{localCell};
 pub fn event_of_kind(kind: u8) -> u8
     ensures { λ r. ⌜ r ≡ eventOfKind kind ⌝ }
 {
-    if kind == 1 {
-        return 6;
+    match kind {
+        numbers::ASSOCIATE_RQ => table::RQ_RECEIVED,
+        numbers::ASSOCIATE_AC => table::AC_RECEIVED,
+        numbers::ASSOCIATE_RJ => table::RJ_RECEIVED,
+        numbers::DATA_TF => table::DATA_RECEIVED,
+        numbers::RELEASE_RQ => table::RELEASE_RQ_RECEIVED,
+        numbers::RELEASE_RP => table::RELEASE_RP_RECEIVED,
+        numbers::ABORT => table::ABORT_RECEIVED,
+        _ => table::INVALID_RECEIVED,
     }
-    if kind == 2 {
-        return 3;
-    }
-    if kind == 3 {
-        return 4;
-    }
-    if kind == 4 {
-        return 10;
-    }
-    if kind == 5 {
-        return 12;
-    }
-    if kind == 6 {
-        return 13;
-    }
-    if kind == 7 {
-        return 16;
-    }
-    19
 }
 
 // The number of the A-ABORT by which a received PDU of a type is answered at an event.
 pub fn abort_for(event: u8, first: u8) -> u8
     ensures { λ r. ⌜ r ≡ abortFor event first ⌝ }
 {
-    if event != 19 {
+    if event != table::INVALID_RECEIVED {
         return 3;
     }
     if first < 1 {
@@ -53,7 +41,7 @@ pub fn local_cell(number: u8, state: u8) -> u8
     ensures { λ r. ⌜ r ≡ localCell number state ⌝ }
 {
     if table::is_received(number) {
-        return 0;
+        return table::NO_ACTION;
     }
     table::cell(number, state)
 }

@@ -40,10 +40,9 @@ pub struct Answer {
     pub assoc: Assoc,
 }
 
-// What an event brings to its action: whether AE-6 accepts; the peer's maximum, deafness and count gathered from now on.
+// What an event brings to its action: whether AE-6 accepts; the peer's maximum and deafness from now on.
 pub struct Brings {
     pub accepts: bool,
     pub peer_max: u32,
     pub deaf: bool,
-    pub gathered: usize,
 }

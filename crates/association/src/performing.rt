@@ -2,49 +2,45 @@
 use crate::Assoc;
 use crate::Brings;
 ghost use mathlib.Core.Path.{_≡_};
-ghost use Rattle.association.specs.Performing.{requestorAfter, entering as enteringOf, after as afterOf, tenBy};
+ghost use Rattle.association.specs.Record.{standing};
+ghost use Rattle.association.specs.Performing.{requestorAfter, entering as enteringOf, leaving, after as afterOf, tenBy};
 
 fn requestor_after(action: u8, a: Assoc) -> bool
-    ensures { λ r. ⌜ r ≡ requestorAfter action a ⌝ }
+    ensures { λ r. ⌜ r ≡ requestorAfter action (standing a) ⌝ }
 {
-    if action == 1 {
+    if action == table::AE_1 {
         return true;
     }
     a.requestor
 }
 
 fn entering(a: Assoc) -> Assoc
-    ensures { λ r. ⌜ r ≡ enteringOf a ⌝ }
+    ensures { λ r. ⌜ r ≡ leaving (enteringOf (standing a)) (a .gathered) ⌝ }
 {
     let state = a.state;
-    if state == 1 {
-        return Assoc {
-            state,
-            gathered: 0,
-            deaf: false,
-            artim: a.artim,
-            requestor: false,
-            peer_max: 0,
-        };
+    if state != 1 {
+        return a;
     }
-    a
+    let mut next = a;
+    next.gathered = 0;
+    next.deaf = false;
+    next.requestor = false;
+    next.peer_max = 0;
+    next
 }
 
-// The record after an action.
-pub fn after(action: u8, a: Assoc, b: Brings) -> Assoc
-    ensures { λ r. ⌜ r ≡ afterOf action a b ⌝ }
+// The record after an action, where so many bytes were gathered.
+pub fn after(action: u8, a: Assoc, b: Brings, gathered: usize) -> Assoc
+    ensures { λ r. ⌜ r ≡ leaving (afterOf action (standing a) b) gathered ⌝ }
 {
-    let state = table::next_state(action, b.accepts, a.requestor);
-    let artim = table::artim_after(action, b.accepts, a.artim);
-    let requestor = requestor_after(action, a);
-    entering(Assoc {
-        state,
-        gathered: b.gathered,
-        deaf: b.deaf,
-        artim,
-        requestor,
-        peer_max: b.peer_max,
-    })
+    let mut next = a;
+    next.state = table::next_state(action, b.accepts, a.requestor);
+    next.gathered = gathered;
+    next.deaf = b.deaf;
+    next.artim = table::artim_after(action, b.accepts, a.artim);
+    next.requestor = requestor_after(action, a);
+    next.peer_max = b.peer_max;
+    entering(next)
 }
 
 // The number of the ten-byte PDU that an action sends by itself, 0 for none; `abort` is that of AA-7 and AA-8.

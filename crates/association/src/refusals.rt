@@ -3,7 +3,7 @@ use crate::Answer;
 use crate::Assoc;
 use crate::Told;
 ghost use mathlib.Core.Path.{_≡_};
-ghost use Rattle.association.specs.Record.{idle, dropping as droppingOf, timed as timedOf, strayState, overfull as overfullOf, strayDeaf, mistimed as mistimedOf, badLength, markedIdle, broken as brokenOf};
+ghost use Rattle.association.specs.Record.{standing, idle, dropping as droppingOf, timed as timedOf, strayState, overfull as overfullOf, strayDeaf, mistimed as mistimedOf, badLength, markedIdle, broken as brokenOf};
 ghost use Rattle.framing.specs.Framing.{lengthField};
 ghost use Rattle.association.specs.Refusals.{recordRefusal, refusedWith};
 
@@ -23,7 +23,7 @@ pub fn fresh() -> Assoc
 
 // Whether received bytes are used and dropped.
 pub fn dropping(a: Assoc) -> bool
-    ensures { λ r. ⌜ r ≡ droppingOf a ⌝ }
+    ensures { λ r. ⌜ r ≡ droppingOf (standing a) ⌝ }
 {
     let state = a.state;
     if state == 1 {
@@ -132,14 +132,14 @@ pub fn length_field(gather: &[u8]) -> usize
 fn bad_length(gathered: usize, gather: &[u8]) -> bool
     ensures { λ r. ⌜ r ≡ badLength gathered (now (gather .entry)) ⌝ }
 {
-    if gathered < 6 {
+    if gathered < numbers::HEADER {
         return false;
     }
     let length = length_field(gather);
-    if 16384 < length {
+    if numbers::LONGEST < length {
         return true;
     }
-    6 + length <= gathered
+    numbers::HEADER + length <= gathered
 }
 
 // 6 but for the length field; 3 where the gather buffer has fewer than `least` bytes; 6 for the length field; 0 for none.
@@ -147,15 +147,15 @@ pub fn record_refusal(a: Assoc, gather: &[u8], least: usize) -> u8
     ensures { λ r. ⌜ r ≡ recordRefusal a (now (gather .entry)) least ⌝ }
 {
     if broken(a) {
-        return 6;
+        return numbers::BROKEN_RECORD;
     }
     if gather.len() < least {
-        return 3;
+        return numbers::SHORT_GATHER;
     }
     if bad_length(a.gathered, gather) {
-        return 6;
+        return numbers::BROKEN_RECORD;
     }
-    0
+    numbers::NOT_REFUSED
 }
 
 // The answer of a refused call.
@@ -165,7 +165,7 @@ pub fn refused(number: u8, a: Assoc) -> Answer
     Answer {
         told: Told {
             refusal: number,
-            action: 0,
+            action: table::NO_ACTION,
             used: 0,
             sent: 0,
             shown: 0,

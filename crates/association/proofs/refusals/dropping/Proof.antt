@@ -5,17 +5,11 @@ use Rattle.association.proofs.RefusalLaws.{tests}
 use Rattle.association.proofs.refusals.dropping.Statement.{statement}
 use Rattle.association.proofs.refusals.dropping.Tie as tie
 
-returns : tie.Need-returns
-unfolding dropping
-returns c = search tests
-
-returns-2 : tie.Need-returns-2
-unfolding dropping
-returns-2 c = search tests
-
-returns-3 : tie.Need-returns-3
-unfolding dropping
-returns-3 c = search tests
-
 pub dropping-spec : {M : Type 1} → statement M
-dropping-spec = tie.close (tie.spec returns returns-2 returns-3)
+unfolding dropping
+dropping-spec =
+    tie.close
+    (tie.spec
+    (λ c. search tests)  -- returns
+    (λ c. search tests)  -- returns-2
+    (λ c. search tests))  -- returns-3

@@ -5,9 +5,9 @@ use Rattle.association.proofs.RefusalLaws.{tests}
 use Rattle.association.proofs.refusals.fresh.Statement.{statement}
 use Rattle.association.proofs.refusals.fresh.Tie as tie
 
-returns : tie.Need-returns
-unfolding idle
-returns c = search tests
-
 pub fresh-spec : {M : Type 1} → statement M
-fresh-spec = tie.close (tie.spec returns)
+unfolding idle
+fresh-spec =
+    tie.close
+    (tie.spec
+    (λ c. search tests))  -- returns

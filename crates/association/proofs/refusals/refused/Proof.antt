@@ -5,9 +5,9 @@ use Rattle.association.proofs.RefusalLaws.{tests}
 use Rattle.association.proofs.refusals.refused.Statement.{statement}
 use Rattle.association.proofs.refusals.refused.Tie as tie
 
-returns : tie.Need-returns
-unfolding refusedWith
-returns c = search tests
-
 pub refused-spec : {M : Type 1} → statement M
-refused-spec = tie.close (tie.spec returns)
+unfolding refusedWith
+refused-spec =
+    tie.close
+    (tie.spec
+    (λ c. search tests))  -- returns
