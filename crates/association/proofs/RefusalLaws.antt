@@ -33,6 +33,8 @@ module _ (a : Assoc) (t : Bool) (e : t ≡ timed (a .state)) where
       by true = refl
       by false = refl
 
+pub ruleset timed-laws = (tests, marked-timed, marked-not)
+
 -- ---- the length field
 pub field-is : (g : List ℕ) (r : ℕ) → r ≡ be32 g 2 → r ≡ lengthField g
 unfolding lengthField

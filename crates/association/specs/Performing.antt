@@ -6,9 +6,10 @@ use lib.Dec.{eqb, ltb}
 use Rattle.judging.specs.Pdu.{acceptable, maximumOf, typeOf}
 use Rattle.writing.specs.Ten.{NONE, ABORT-USER, ABORT-UNRECOGNIZED, ABORT-UNEXPECTED, ABORT-INVALID, REJECT-VERSION, RELEASE-RQ, RELEASE-RP}
 use Rattle.framing.specs.Framing.{Brought, Brought.pdu, Brought.over-length}
-use Rattle.table.specs.ActionNames.{AE-1, AE-3, AE-6, AR-1, AR-4, AR-9, AA-1, AA-7, AA-8}
+use Rattle.table.specs.ActionNames.{AE-1, AE-3, AE-6}
 use Rattle.table.specs.EventNames.{INVALID-RECEIVED}
-use Rattle.table.specs.Actions.{nextOf, artimOf}
+use Rattle.table.specs.Actions.{Sends, doesOf, nextOf, artimOf}
+use Rattle.table.specs.Actions.{Sends.nothing, Sends.contents, Sends.reject-version, Sends.release-rq, Sends.release-rp, Sends.abort-user, Sends.abort-provider}
 use Rattle.association.specs.declared.Assoc.{Assoc}
 use Rattle.association.specs.declared.Brings.{Brings}
 use Rattle.association.specs.Record.{Standing, withGathered, moved, cleared}
@@ -67,14 +68,16 @@ abbrev pub abortBy : ℕ → Brought → ℕ
 abortBy event (pdu p) = abortFor event (typeOf p)
 abortBy event over-length = ABORT-INVALID
 
--- the ten-byte PDU that an action sends by itself: AE-6 where it rejects "result 1, source 2, reason 2"; "AA-1 source 0, reason 0. AA-7 and AA-8 source 2"
+-- what an action sends as the number of a ten-byte PDU, where `abort` is that of AA-7 and AA-8
+abbrev pub tenFor : Sends → ℕ → ℕ
+tenFor nothing abort = NONE
+tenFor (contents kind) abort = NONE
+tenFor reject-version abort = REJECT-VERSION
+tenFor release-rq abort = RELEASE-RQ
+tenFor release-rp abort = RELEASE-RP
+tenFor abort-user abort = ABORT-USER
+tenFor abort-provider abort = abort
+
+-- the ten-byte PDU that an action sends by itself
 unfoldable pub tenBy : ℕ → Bool → ℕ → ℕ
-tenBy action accepts abort =
-    cond (eqb action AE-6) (cond accepts NONE REJECT-VERSION)
-    (cond (eqb action AR-1) RELEASE-RQ
-    (cond (eqb action AR-4) RELEASE-RP
-    (cond (eqb action AR-9) RELEASE-RP
-    (cond (eqb action AA-1) ABORT-USER
-    (cond (eqb action AA-7) abort
-    (cond (eqb action AA-8) abort
-    NONE))))))
+tenBy action accepts abort = tenFor (doesOf action accepts false .sends) abort

@@ -47,29 +47,12 @@ pub fn after(action: u8, a: Assoc, b: Brings, gathered: usize) -> Assoc
 pub fn ten_by(action: u8, accepts: bool, abort: u8) -> u8
     ensures { λ r. ⌜ r ≡ tenBy action accepts abort ⌝ }
 {
-    if action == 6 {
-        if accepts {
-            return 0;
-        }
-        return 5;
+    match table::sends(action, accepts) {
+        table::SENDS_REJECT_VERSION => 5,
+        table::SENDS_RELEASE_RQ => 6,
+        table::SENDS_RELEASE_RP => 7,
+        table::SENDS_ABORT_USER => 1,
+        table::SENDS_ABORT_PROVIDER => abort,
+        _ => 0,
     }
-    if action == 11 {
-        return 6;
-    }
-    if action == 14 {
-        return 7;
-    }
-    if action == 19 {
-        return 7;
-    }
-    if action == 21 {
-        return 1;
-    }
-    if action == 27 {
-        return abort;
-    }
-    if action == 28 {
-        return abort;
-    }
-    0
 }

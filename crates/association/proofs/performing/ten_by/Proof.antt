@@ -1,21 +1,18 @@
--- `ten_by` meets its contract: the actions one after the other.
+-- `ten_by` meets its contract: what the table answers, one number after the other.
 -- Assumes nothing.
-use Rattle.association.specs.Performing.{tenBy}
-use Rattle.association.proofs.RefusalLaws.{tests}
+use Rattle.association.proofs.PerformingLaws.{tenNumbered, ten-by-laws}
 use Rattle.association.proofs.performing.ten_by.Statement.{statement}
 use Rattle.association.proofs.performing.ten_by.Tie as tie
 
 pub ten-by-spec : {M : Type 1} → statement M
-unfolding tenBy
+unfolding tenNumbered
 ten-by-spec =
     tie.close
     (tie.spec
-    (λ c. search tests depth 12)  -- returns
-    (λ c. search tests depth 12)  -- returns-2
-    (λ c. search tests depth 12)  -- returns-3
-    (λ c. search tests depth 12)  -- returns-4
-    (λ c. search tests depth 12)  -- returns-5
-    (λ c. search tests depth 12)  -- returns-6
-    (λ c. search tests depth 12)  -- returns-7
-    (λ c. search tests depth 12)  -- returns-8
-    (λ c. search tests depth 12))  -- returns-9
+    (λ c κs. search ten-by-laws)  -- sends-requires
+    (λ c. search ten-by-laws)  -- returns
+    (λ c. search ten-by-laws)  -- returns-2
+    (λ c. search ten-by-laws)  -- returns-3
+    (λ c. search ten-by-laws)  -- returns-4
+    (λ c. search ten-by-laws)  -- returns-5
+    (λ c. search ten-by-laws depth 12))  -- returns-6

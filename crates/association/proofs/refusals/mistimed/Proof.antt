@@ -1,6 +1,6 @@
 -- `mistimed` meets its contract.
 -- Assumes nothing.
-use Rattle.association.proofs.RefusalLaws.{tests, marked-timed, marked-not}
+use Rattle.association.proofs.RefusalLaws.{timed-laws}
 use Rattle.association.proofs.refusals.mistimed.Statement.{statement}
 use Rattle.association.proofs.refusals.mistimed.Tie as tie
 
@@ -8,6 +8,6 @@ pub mistimed-spec : {M : Type 1} → statement M
 mistimed-spec =
     tie.close
     (tie.spec
-    (λ c κs. search (tests, marked-timed, marked-not))  -- timed-requires
-    (λ c. search (tests, marked-timed, marked-not))  -- returns
-    (λ c. search (tests, marked-timed, marked-not)))  -- returns-2
+    (λ c κs. search timed-laws)  -- timed-requires
+    (λ c. search timed-laws)  -- returns
+    (λ c. search timed-laws))  -- returns-2
