@@ -2,7 +2,7 @@
 -- Assumes nothing.
 use Prim.Native.Nat.{ℕ}
 use mathlib.Core.Path.{_≡_, refl, _∙_}
-use mathlib.Core.Bool.{Bool, false, cond}
+use mathlib.Core.Bool.{Bool, true, false, cond}
 use lib.Dec.{eqb}
 use borrow.Author.Needs.{needs}
 use borrow.Author.Tests.{eq-eqb, ne-eqb}
@@ -12,7 +12,7 @@ use Rattle.table.specs.Actions.{Sends.nothing, Sends.contents, Sends.reject-ver
 use Rattle.writing.specs.Ten.{NONE, REJECT-VERSION, RELEASE-RQ, RELEASE-RP, ABORT-USER}
 use Rattle.association.specs.declared.Assoc.{Assoc}
 use Rattle.association.specs.declared.Brings.{Brings}
-use Rattle.association.specs.Record.{standing, withGathered, moved, cleared}
+use Rattle.association.specs.Record.{Standing, standing, withGathered, moved, cleared}
 use Rattle.association.specs.Performing.{requestorAfter, entering, leaving, after, tenFor, tenBy}
 
 module _ (a : Assoc) where
@@ -23,6 +23,15 @@ module _ (a : Assoc) where
   pub enters-else : (a .state ≡ 1 → ⊥) → a ≡ leaving (entering (standing a)) (a .gathered)
   unfolding entering leaving
   enters-else e = rw (ne-eqb (a .state) 1 e) (rw (ne-eqb (a .state) 1 e))
+
+-- where nothing was gathered
+pub leaves-none : (s : Standing) → leaving s 0 ≡ withGathered s 0
+unfolding leaving
+leaves-none s = by (eqb (s .state) 1)
+  where
+    by : (b : Bool) → withGathered s (cond b 0 0) ≡ withGathered s 0
+    by true = refl
+    by false = refl
 
 pub is-after : (action : ℕ) (a : Assoc) (b : Brings) (n s : ℕ) (t q : Bool) (r : Assoc)
     → s ≡ nextOf action (b .accepts) (a .requestor) → t ≡ artimOf action (b .accepts) (a .artim) → q ≡ requestorAfter action (standing a)

@@ -1,7 +1,7 @@
 -- Any two permitted answers of `receive` agree, and so do the contents of the gather buffer and of the output as it leaves them.
 -- Assumes nothing.
 use Prim.Native.Nat.{ℕ}
-use mathlib.Core.Path.{_≡_, ap}
+use mathlib.Core.Path.{ap}
 use mathlib.Core.List.{List}
 use denote.Ref.{now}
 use Rattle.laws.proofs.Agree.{agree, AgreesLent}

@@ -1,29 +1,23 @@
 -- From what the two copies leave to what gathering leaves: a law for each way out of `gather`.
 -- Assumes nothing.
 use Prim.Native.Nat.{ℕ, _+_, _-_, _≤_, _<_}
-use mathlib.Core.Path.{_≡_, refl, sym, ap, _∙_}
-use mathlib.Core.Bool.{Bool, true, false, cond}
+use mathlib.Core.Path.{_≡_, sym, ap, _∙_}
 use mathlib.Core.List.{List, _++_, append-assoc}
 use native.Mathlib.Nat.{add-zero, sub-zero}
 use native.Mathlib.Omega.{arith}
 use native.Mathlib.Decide.{decLt}
-use lib.Dec.{leb, ltb}
-use lib.ListN.{length, take, drop, length-append, length-drop, take-append-drop}
+use lib.ListN.{length, take, drop, length-append, take-append-drop}
 use lib.Seq.{length-take-le}
 use borrow.Author.Needs.{needs}
-use borrow.Author.Tests.{leb-true, leb-false, ltb-true, ltb-false}
-use Rattle.laws.proofs.Tests.{follow}
-use Rattle.octets.specs.Put.{put, Placed}
-use Rattle.octets.proofs.PutLaws.{put-out, put-behind, put-length, put-put}
-use Rattle.framing.specs.Framing.{Frame, frame, lengthField, Frame.short, Frame.long, Frame.whole}
+use Rattle.octets.specs.Put.{put}
+use Rattle.octets.proofs.PutLaws.{put-length, put-put}
+use Rattle.framing.specs.Framing.{frame, lengthField, Frame.short, Frame.long, Frame.whole}
 use Rattle.framing.proofs.Framing.{frame-few, frame-part, frame-over, frame-full, length-take-field, length-append-field, no-event-yet}
 use Rattle.framing.proofs.Buffers.{take-put}
 use Rattle.receiving.specs.Private.Gathering.{wantOf, Fills, Copied, RoomToGather, Gathered}
 use Rattle.receiving.proofs.FillLaws.{Wanted, wanted, wanted-at, take-on}
 use Rattle.receiving.proofs.NewLaws.{opens, behind-none}
-use Rattle.receiving.specs.declared.gather.Head.{Head}
 use Rattle.receiving.specs.declared.gather.Head.the-variants.{Short, Long, Whole}
-use Rattle.receiving.specs.declared.gather.Got.{Got}
 
 -- ---- the header, then the body
 module _ (b : List ℕ) (c : ℕ) (p : List ℕ) (f : RoomToGather b c) where

@@ -1,15 +1,15 @@
 -- From the one copy of a piece that opens a PDU to what gathering leaves: a law for each way out of `gather_new`.
 -- Assumes nothing.
-use Prim.Native.Nat.{ℕ, _+_, _-_, _≤_, _<_}
-use mathlib.Core.Path.{_≡_, refl, sym, ap, _∙_}
-use mathlib.Core.List.{List, _++_}
+use Prim.Native.Nat.{ℕ, _+_, _≤_, _<_}
+use mathlib.Core.Path.{_≡_}
+use mathlib.Core.List.{List}
 use native.Mathlib.Omega.{arith}
-use lib.ListN.{length, take, drop}
+use lib.ListN.{length, take}
 use lib.Seq.{length-take-le}
 use borrow.Author.Needs.{needs}
 use Rattle.octets.specs.Put.{put, Placed}
 use Rattle.octets.proofs.PutLaws.{put-out}
-use Rattle.framing.specs.Framing.{Frame, frame, lengthField, Frame.short, Frame.long, Frame.whole}
+use Rattle.framing.specs.Framing.{frame, lengthField, Frame.short, Frame.long, Frame.whole}
 use Rattle.framing.proofs.Framing.{frame-part, frame-over, frame-full}
 use Rattle.receiving.specs.Private.Gathering.{wantOf, RoomToGather, Opens, Gathered}
 use Rattle.receiving.specs.declared.gather.Head.the-variants.{Short, Long, Whole}

@@ -66,16 +66,16 @@ fn gather_new(buf: &mut [u8], piece: &[u8]) -> Got
     ensures { λ r. ⌜ Gathered (now (buf .entry)) 0 (now (piece .entry)) (now (buf .exit)) r ⌝ }
 {
     let len = association::length_field(piece);
-    if 16384 < len {
-        octets::put(buf, 0, &piece[..6]);
+    if numbers::LONGEST < len {
+        octets::put(buf, 0, &piece[..numbers::HEADER]);
         return Got {
-            used: 6,
+            used: numbers::HEADER,
             head: Head::Long,
         };
     }
-    let m = want(0, 6 + len, piece.len());
+    let m = want(0, numbers::HEADER + len, piece.len());
     octets::put(buf, 0, &piece[..m]);
-    if m < 6 + len {
+    if m < numbers::HEADER + len {
         return Got {
             used: m,
             head: Head::Short,
@@ -93,26 +93,26 @@ pub(crate) fn gather(buf: &mut [u8], count: usize, piece: &[u8]) -> Got
     ensures { λ r. ⌜ Gathered (now (buf .entry)) count (now (piece .entry)) (now (buf .exit)) r ⌝ }
 {
     if count == 0 {
-        if 6 <= piece.len() {
+        if numbers::HEADER <= piece.len() {
             return gather_new(buf, piece);
         }
     }
-    let h = fill(buf, count, 0, 6, piece);
-    if count + h < 6 {
+    let h = fill(buf, count, 0, numbers::HEADER, piece);
+    if count + h < numbers::HEADER {
         return Got {
             used: h,
             head: Head::Short,
         };
     }
     let len = association::length_field(buf);
-    if 16384 < len {
+    if numbers::LONGEST < len {
         return Got {
             used: h,
             head: Head::Long,
         };
     }
-    let m = fill_lines(buf, count, h, 6 + len, piece);
-    if count + m < 6 + len {
+    let m = fill_lines(buf, count, h, numbers::HEADER + len, piece);
+    if count + m < numbers::HEADER + len {
         return Got {
             used: m,
             head: Head::Short,

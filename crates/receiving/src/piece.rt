@@ -12,14 +12,14 @@ ghost use Rattle.receiving.specs.Private.Reactions.{quietOf};
 fn receive_refusal(a: Assoc, gather: &[u8], out: &[u8]) -> u8
     ensures { λ r. ⌜ r ≡ receiveRefusal a (now (gather .entry)) (now (out .entry)) ⌝ }
 {
-    let number = association::record_refusal(a, gather, 16390);
-    if number != 0 {
+    let number = association::record_refusal(a, gather, numbers::BUFFER);
+    if number != numbers::NOT_REFUSED {
         return number;
     }
-    if out.len() < 10 {
-        return 2;
+    if out.len() < numbers::TEN {
+        return numbers::SHORT_OUTPUT;
     }
-    0
+    numbers::NOT_REFUSED
 }
 
 // No event: so many bytes are gathered now, and so many were used.
@@ -30,8 +30,8 @@ fn quiet(a: Assoc, gathered: usize, used: usize) -> Answer
     assoc.gathered = gathered;
     Answer {
         told: Told {
-            refusal: 0,
-            action: 0,
+            refusal: numbers::NOT_REFUSED,
+            action: table::NO_ACTION,
             used,
             sent: 0,
             shown: 0,
@@ -45,7 +45,7 @@ pub fn receive(a: Assoc, gather: &mut [u8], piece: &[u8], out: &mut [u8]) -> Ans
     ensures { λ r. ⌜ call r (now (gather .exit)) (now (out .exit)) ≡ receiveOf a (now (gather .entry)) (now (piece .entry)) (now (out .entry)) ⌝ }
 {
     let number = receive_refusal(a, gather, out);
-    if number != 0 {
+    if number != numbers::NOT_REFUSED {
         return association::refused(number, a);
     }
     let at = a.gathered;

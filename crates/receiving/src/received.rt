@@ -8,23 +8,20 @@ ghost use mathlib.Core.Bool.{cond, _||_};
 ghost use Prim.Native.Nat.{_≤_};
 ghost use lib.ListN.{length};
 ghost use lib.Dec.{eqb};
+ghost use Rattle.numbers.specs.Lengths.{TEN};
+ghost use Rattle.framing.specs.Framing.{Brought.pdu as whole};
 ghost use Rattle.judging.specs.Pdu.{maximumOf};
-ghost use Rattle.association.specs.Events.{eventOf, invalidPdu};
-ghost use Rattle.association.specs.Performing.{acceptsAt, brings, Input.whole, Input.long};
-ghost use Rattle.association.specs.Machine.{onEvent};
-ghost use Rattle.receiving.specs.Private.Reactions.{doneOf, Acted, Reported, toldOf};
-
-// What an event does, before its bytes are written: its action, the ten-byte PDU to be sent by its number, whether the PDU is shown, the record after.
-pub struct Performed {
-    pub action: u8,
-    pub ten: u8,
-    pub shows: bool,
-    pub assoc: Assoc,
-}
+ghost use Rattle.writing.specs.Ten.{tenOf};
+ghost use Rattle.table.specs.ActionNames.{AE-3};
+ghost use Rattle.association.specs.Record.{standing};
+ghost use Rattle.association.specs.Events.{eventOf};
+ghost use Rattle.association.specs.Performing.{acceptsAt, brings, tenBy};
+ghost use Rattle.association.specs.Machine.{doing, upper};
+ghost use Rattle.receiving.specs.Private.Reactions.{Done};
 
 // The event that a whole PDU brings to an association.
 fn event_of(a: Assoc, pdu: &[u8]) -> u8
-    ensures { λ r. ⌜ r ≡ eventOf a (now (pdu .entry)) ⌝ }
+    ensures { λ r. ⌜ r ≡ eventOf (standing a) (now (pdu .entry)) ⌝ }
 {
     association::event_of_kind(judging::kind_of(pdu))
 }
@@ -32,16 +29,16 @@ fn event_of(a: Assoc, pdu: &[u8]) -> u8
 fn accepts_at(action: u8, pdu: &[u8]) -> bool
     ensures { λ r. ⌜ r ≡ acceptsAt action (now (pdu .entry)) ⌝ }
 {
-    if action != 6 {
+    if action != table::AE_6 {
         return false;
     }
     judging::acceptable(pdu)
 }
 
 fn peer_at(action: u8, accepts: bool, kept: u32, pdu: &[u8]) -> u32
-    ensures { λ r. ⌜ r ≡ cond (eqb action 3 || accepts) (maximumOf (now (pdu .entry))) kept ⌝ }
+    ensures { λ r. ⌜ r ≡ cond (eqb action AE-3 || accepts) (maximumOf (now (pdu .entry))) kept ⌝ }
 {
-    if action == 3 {
+    if action == table::AE_3 {
         return judging::maximum_of(pdu);
     }
     if accepts {
@@ -51,7 +48,7 @@ fn peer_at(action: u8, accepts: bool, kept: u32, pdu: &[u8]) -> u32
 }
 
 fn brings_pdu(action: u8, a: Assoc, pdu: &[u8]) -> Brings
-    ensures { λ r. ⌜ r ≡ brings action a (whole (now (pdu .entry))) ⌝ }
+    ensures { λ r. ⌜ r ≡ brings action (standing a) (whole (now (pdu .entry))) ⌝ }
 {
     let accepts = accepts_at(action, pdu);
     let peer_max = peer_at(action, accepts, a.peer_max, pdu);
@@ -59,70 +56,33 @@ fn brings_pdu(action: u8, a: Assoc, pdu: &[u8]) -> Brings
         accepts,
         peer_max,
         deaf: a.deaf,
-        gathered: 0,
     }
 }
 
-fn done(action: u8, a: Assoc, b: Brings, abort: u8) -> Performed
-    ensures { λ r. ⌜ r ≡ doneOf action a b abort ⌝ }
+// Does an action and tells it: so many bytes were used, with a PDU of `len` bytes.
+fn done(
+    action: u8,
+    a: Assoc,
+    b: Brings,
+    abort: u8,
+    used: usize,
+    len: usize,
+    out: &mut [u8],
+) -> Answer
+    requires { ⌜ TEN ≤ length (now out) ⌝ }
+    ensures { λ r. ⌜ Done (doing action (standing a) b (tenOf (tenBy action (b .accepts) abort))) (now (out .entry)) used len r (now (out .exit)) ⌝ }
 {
     let ten = association::ten_by(action, b.accepts, abort);
+    let sent = writing::write_ten(ten, out);
     let shows = table::shows(action, b.accepts);
-    let next = association::after(action, a, b);
-    Performed {
-        action,
-        ten,
-        shows,
-        assoc: next,
-    }
-}
-
-fn on_pdu(a: Assoc, pdu: &[u8]) -> Performed
-    ensures { λ r. ⌜ Acted (onEvent (eventOf a (now (pdu .entry))) a (whole (now (pdu .entry)))) r ⌝ }
-{
-    let event = event_of(a, pdu);
-    let action = table::cell(event, a.state);
-    let b = brings_pdu(action, a, pdu);
-    let abort = association::abort_for(event, octets::byte_at(pdu, 0));
-    done(action, a, b, abort)
-}
-
-// Does what `done` does, in place: with one caller alone `done` is compiled into it, and no record is copied through memory behind a long copy.
-fn on_long(a: Assoc) -> Performed
-    ensures { λ r. ⌜ Acted (onEvent invalidPdu a long) r ⌝ }
-{
-    let action = table::cell(19, a.state);
-    let peer_max = a.peer_max;
-    let b = Brings {
-        accepts: false,
-        peer_max,
-        deaf: true,
-        gathered: 0,
-    };
-    let ten = association::ten_by(action, false, 4);
-    let shows = table::shows(action, false);
-    let assoc = association::after(action, a, b);
-    Performed {
-        action,
-        ten,
-        shows,
-        assoc,
-    }
-}
-
-fn tells(d: Performed, used: usize, sent: usize, length: usize) -> Answer
-    ensures { λ r. ⌜ r ≡ toldOf d used sent length ⌝ }
-{
-    let action = d.action;
-    let assoc = d.assoc;
-    let shows = d.shows;
+    let assoc = association::after(action, a, b, 0);
     let mut shown = 0;
     if shows {
-        shown = length;
+        shown = len;
     }
     Answer {
         told: Told {
-            refusal: 0,
+            refusal: numbers::NOT_REFUSED,
             action,
             used,
             sent,
@@ -134,20 +94,26 @@ fn tells(d: Performed, used: usize, sent: usize, length: usize) -> Answer
 
 // A length above the limit, at the last of the bytes used.
 pub(crate) fn do_long(a: Assoc, used: usize, out: &mut [u8]) -> Answer
-    requires { ⌜ 10 ≤ length (now out) ⌝ }
-    ensures { λ r. ⌜ Reported (onEvent invalidPdu a long) (now (out .entry)) used 0 r (now (out .exit)) ⌝ }
+    requires { ⌜ TEN ≤ length (now out) ⌝ }
+    ensures { λ r. ⌜ Done (upper .onLong (standing a)) (now (out .entry)) used 0 r (now (out .exit)) ⌝ }
 {
-    let d = on_long(a);
-    let sent = writing::write_ten(d.ten, out);
-    tells(d, used, sent, 0)
+    let action = table::cell(table::INVALID_RECEIVED, a.state);
+    let b = Brings {
+        accepts: false,
+        peer_max: a.peer_max,
+        deaf: true,
+    };
+    done(action, a, b, 4, used, 0, out)
 }
 
 // A whole PDU, at the last of the bytes used.
 pub(crate) fn do_pdu(a: Assoc, pdu: &[u8], used: usize, out: &mut [u8]) -> Answer
-    requires { ⌜ 10 ≤ length (now out) ⌝ }
-    ensures { λ r. ⌜ Reported (onEvent (eventOf a (now (pdu .entry))) a (whole (now (pdu .entry)))) (now (out .entry)) used (length (now (pdu .entry))) r (now (out .exit)) ⌝ }
+    requires { ⌜ TEN ≤ length (now out) ⌝ }
+    ensures { λ r. ⌜ Done (upper .onPdu (standing a) (now (pdu .entry))) (now (out .entry)) used (length (now (pdu .entry))) r (now (out .exit)) ⌝ }
 {
-    let d = on_pdu(a, pdu);
-    let sent = writing::write_ten(d.ten, out);
-    tells(d, used, sent, pdu.len())
+    let event = event_of(a, pdu);
+    let action = table::cell(event, a.state);
+    let b = brings_pdu(action, a, pdu);
+    let abort = association::abort_for(event, octets::byte_at(pdu, 0));
+    done(action, a, b, abort, used, pdu.len(), out)
 }

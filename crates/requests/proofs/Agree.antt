@@ -1,6 +1,6 @@
 -- Any two permitted answers of each local event agree, and so do the contents of the output as it leaves it.
 -- Assumes nothing.
-use mathlib.Core.Path.{_≡_, ap}
+use mathlib.Core.Path.{ap}
 use denote.Ref.{now}
 use Rattle.laws.proofs.Agree.{agree, AgreesLent}
 use Rattle.association.specs.Calls.{Call}

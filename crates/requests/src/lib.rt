@@ -5,49 +5,45 @@ use association::Brings;
 use association::Told;
 use writing::Sent;
 ghost use mathlib.Core.Path.{_≡_};
-ghost use mathlib.Core.List.{[], _∷_};
-ghost use Rattle.laws.specs.Lists.{among};
 ghost use Rattle.writing.specs.Fields.{rqOf, acOf, rejectOf, itemsOf};
-ghost use Rattle.association.specs.Events.{Local.plain, Local.confirm, Local.accept, Local.reject, Local.send};
+ghost use Rattle.writing.specs.Form.{Wrote};
+ghost use Rattle.association.specs.Events.{carries as carriesOf, Local.plain, Local.confirm, Local.accept, Local.reject, Local.send};
+ghost use Rattle.association.specs.Machine.{plainForm};
 ghost use Rattle.association.specs.Calls.{call, localOf};
-ghost use Rattle.requests.specs.Private.Gates.{gateOf, doneLocally, finishOf};
+ghost use Rattle.requests.specs.Private.Gates.{gateRefusal, finishOf};
 
-// A local event's refusal before its contents are looked at, or its action.
-pub struct Gate {
-    pub refusal: u8,
-    pub action: u8,
+// What refuses a local event before its contents are looked at.
+fn gate(a: Assoc, gather: &[u8], action: u8) -> u8
+    ensures { λ r. ⌜ r ≡ gateRefusal a (now (gather .entry)) action ⌝ }
+{
+    let number = association::record_refusal(a, gather, a.gathered);
+    if number != numbers::NOT_REFUSED {
+        return number;
+    }
+    if action == table::NO_ACTION {
+        return numbers::BLANK_CELL;
+    }
+    numbers::NOT_REFUSED
 }
 
-fn gated(a: Assoc, gather: &[u8], number: u8) -> Gate
-    ensures { λ r. ⌜ r ≡ gateOf a (now (gather .entry)) number ⌝ }
+// Refused by the writer of its PDU, or the action is done.
+fn finish(a: Assoc, action: u8, s: Sent) -> Answer
+    ensures { λ r. ⌜ r ≡ finishOf a action s ⌝ }
 {
-    let refusal = association::record_refusal(a, gather, a.gathered);
-    if refusal != 0 {
-        return Gate { refusal, action: 0 };
+    let refusal = s.refusal;
+    let sent = s.count;
+    if refusal != numbers::NOT_REFUSED {
+        return association::refused(refusal, a);
     }
-    let action = association::local_cell(number, a.state);
-    if action == 0 {
-        return Gate {
-            refusal: 1,
-            action: 0,
-        };
-    }
-    Gate { refusal: 0, action }
-}
-
-fn answered(a: Assoc, action: u8, sent: usize) -> Answer
-    ensures { λ r. ⌜ r ≡ doneLocally a action sent ⌝ }
-{
     let b = Brings {
         accepts: false,
         peer_max: a.peer_max,
         deaf: a.deaf,
-        gathered: a.gathered,
     };
-    let assoc = association::after(action, a, b);
+    let assoc = association::after(action, a, b, a.gathered);
     Answer {
         told: Told {
-            refusal: 0,
+            refusal,
             action,
             used: 0,
             sent,
@@ -57,52 +53,54 @@ fn answered(a: Assoc, action: u8, sent: usize) -> Answer
     }
 }
 
-fn finish(a: Assoc, action: u8, s: Sent) -> Answer
-    ensures { λ r. ⌜ r ≡ finishOf a action s ⌝ }
-{
-    let refusal = s.refusal;
-    let count = s.count;
-    if refusal != 0 {
-        return association::refused(refusal, a);
-    }
-    answered(a, action, count)
-}
-
 // Whether an event has contents, which a bare number cannot carry.
 fn carries(number: u8) -> bool
-    ensures { λ r. ⌜ r ≡ among number (2 ∷ 7 ∷ 8 ∷ 9 ∷ []) ⌝ }
+    ensures { λ r. ⌜ r ≡ carriesOf number ⌝ }
 {
-    if number == 2 {
-        return true;
+    match number {
+        table::TRANSPORT_CONFIRM => true,
+        table::ACCEPT_RESPONSE => true,
+        table::REJECT_RESPONSE => true,
+        table::DATA_REQUEST => true,
+        _ => false,
     }
-    if number == 7 {
-        return true;
+}
+
+// Writes what the action of an event without contents sends by itself.
+fn write_plain(number: u8, action: u8, out: &mut [u8]) -> Sent
+    ensures { λ r. ⌜ Wrote (plainForm number action) (now (out .entry)) r (now (out .exit)) ⌝ }
+{
+    if carries(number) {
+        return Sent {
+            refusal: numbers::BAD_CONTENTS,
+            count: 0,
+        };
     }
-    if number == 8 {
-        return true;
+    let ten = association::ten_by(action, false, 0);
+    if out.len() < writing::ten_len(ten) {
+        return Sent {
+            refusal: numbers::SHORT_OUTPUT,
+            count: 0,
+        };
     }
-    number == 9
+    let count = writing::write_ten(ten, out);
+    Sent {
+        refusal: numbers::NOT_REFUSED,
+        count,
+    }
 }
 
 // A local event by its number, 1 to 19 in the row order of Table 9-10: one of the seven without contents.
 pub fn event(a: Assoc, number: u8, gather: &[u8], out: &mut [u8]) -> Answer
     ensures { λ r. ⌜ call r (now (gather .entry)) (now (out .exit)) ≡ localOf a (now (gather .entry)) (now (out .entry)) (plain number) ⌝ }
 {
-    let gate = gated(a, gather, number);
-    let refusal = gate.refusal;
-    let action = gate.action;
-    if refusal != 0 {
+    let action = association::local_cell(number, a.state);
+    let refusal = gate(a, gather, action);
+    if refusal != numbers::NOT_REFUSED {
         return association::refused(refusal, a);
     }
-    if carries(number) {
-        return association::refused(4, a);
-    }
-    let ten = association::ten_by(action, false, 0);
-    if out.len() < writing::ten_len(ten) {
-        return association::refused(2, a);
-    }
-    let sent = writing::write_ten(ten, out);
-    answered(a, action, sent)
+    let sent = write_plain(number, action, out);
+    finish(a, action, sent)
 }
 
 // The transport confirmation, with the fields of the RQ to be sent.
@@ -117,10 +115,9 @@ pub fn confirm(
 ) -> Answer
     ensures { λ r. ⌜ call r (now (gather .entry)) (now (out .exit)) ≡ localOf a (now (gather .entry)) (now (out .entry)) (confirm (rqOf (now (called .entry)) (now (calling .entry)) (now (application .entry)) (now (sheet .entry)))) ⌝ }
 {
-    let gate = gated(a, gather, 2);
-    let refusal = gate.refusal;
-    let action = gate.action;
-    if refusal != 0 {
+    let action = association::local_cell(table::TRANSPORT_CONFIRM, a.state);
+    let refusal = gate(a, gather, action);
+    if refusal != numbers::NOT_REFUSED {
         return association::refused(refusal, a);
     }
     let sent = writing_associate::write_request(called, calling, application, sheet, out);
@@ -138,10 +135,9 @@ pub fn accept(
 ) -> Answer
     ensures { λ r. ⌜ call r (now (gather .entry)) (now (out .exit)) ≡ localOf a (now (gather .entry)) (now (out .entry)) (accept (acOf (now (echoed .entry)) (now (application .entry)) (now (sheet .entry)))) ⌝ }
 {
-    let gate = gated(a, gather, 7);
-    let refusal = gate.refusal;
-    let action = gate.action;
-    if refusal != 0 {
+    let action = association::local_cell(table::ACCEPT_RESPONSE, a.state);
+    let refusal = gate(a, gather, action);
+    if refusal != numbers::NOT_REFUSED {
         return association::refused(refusal, a);
     }
     let sent = writing_associate::write_accept(echoed, application, sheet, out);
@@ -152,10 +148,9 @@ pub fn accept(
 pub fn reject(a: Assoc, result: u8, source: u8, reason: u8, gather: &[u8], out: &mut [u8]) -> Answer
     ensures { λ r. ⌜ call r (now (gather .entry)) (now (out .exit)) ≡ localOf a (now (gather .entry)) (now (out .entry)) (reject (rejectOf result source reason)) ⌝ }
 {
-    let gate = gated(a, gather, 8);
-    let refusal = gate.refusal;
-    let action = gate.action;
-    if refusal != 0 {
+    let action = association::local_cell(table::REJECT_RESPONSE, a.state);
+    let refusal = gate(a, gather, action);
+    if refusal != numbers::NOT_REFUSED {
         return association::refused(refusal, a);
     }
     let sent = writing::write_reject(result, source, reason, out);
@@ -166,10 +161,9 @@ pub fn reject(a: Assoc, result: u8, source: u8, reason: u8, gather: &[u8], out: 
 pub fn send(a: Assoc, items: &[u8], gather: &[u8], out: &mut [u8]) -> Answer
     ensures { λ r. ⌜ call r (now (gather .entry)) (now (out .exit)) ≡ localOf a (now (gather .entry)) (now (out .entry)) (send (itemsOf (now (items .entry)))) ⌝ }
 {
-    let gate = gated(a, gather, 9);
-    let refusal = gate.refusal;
-    let action = gate.action;
-    if refusal != 0 {
+    let action = association::local_cell(table::DATA_REQUEST, a.state);
+    let refusal = gate(a, gather, action);
+    if refusal != numbers::NOT_REFUSED {
         return association::refused(refusal, a);
     }
     let sent = writing::write_data(items, a.peer_max, out);

@@ -1,7 +1,6 @@
--- `event` meets its contract: one law for each of its four ways out.
+-- `event` meets its contract: refused at the gate, or as the writer says.
 -- Assumes nothing.
-use Rattle.requests.proofs.RequestLaws.{shut-at, plain-bad, plain-short, plain-done}
-use borrow.Author.Needs.{needs}
+use Rattle.requests.proofs.RequestLaws.{event-laws}
 use Rattle.requests.proofs.event.Statement.{statement}
 use Rattle.requests.proofs.event.Tie as tie
 
@@ -9,17 +8,11 @@ pub event-spec : {M : Type 1} → statement M
 event-spec =
     tie.close
     (tie.spec
-    (λ c κs. search needs)  -- gated-requires
-    (λ c κs. search needs)  -- refused-requires
-    (λ c. search (needs, shut-at))  -- returns
-    (λ c κs. search needs)  -- carries-requires
-    (λ c κs. search needs)  -- refused-requires-2
-    (λ c. search (needs, plain-bad))  -- returns-2
-    (λ c κs. search needs)  -- ten-by-requires
-    (λ c κs. search needs)  -- ten-len-requires
-    (λ c κs. search needs)  -- refused-requires-3
-    (λ c. search (needs, plain-short))  -- returns-3
-    (λ c κs. search needs)  -- write-ten-requires
-    (λ c κs. search needs)  -- answered-requires
-    (λ c. search needs)  -- same-length
-    (λ c. search (needs, plain-done)))  -- returns-4
+    (λ c κs. search event-laws)  -- local-cell-requires
+    (λ c κs. search event-laws)  -- gate-requires
+    (λ c κs. search event-laws)  -- refused-requires
+    (λ c. search event-laws)  -- returns
+    (λ c κs. search event-laws)  -- write-plain-requires
+    (λ c κs. search event-laws)  -- finish-requires
+    (λ c. search event-laws)  -- same-length
+    (λ c. search event-laws))  -- returns-2

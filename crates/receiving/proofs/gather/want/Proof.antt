@@ -5,24 +5,13 @@ use Rattle.laws.proofs.Tests.{follow}
 use Rattle.receiving.proofs.gather.want.Statement.{statement}
 use Rattle.receiving.proofs.gather.want.Tie as tie
 
-returns : tie.Need-returns
-unfolding wantOf
-returns c = search follow
-
-returns-2 : tie.Need-returns-2
-unfolding wantOf
-returns-2 c = search follow
-
-returns-3 : tie.Need-returns-3
-unfolding wantOf
-returns-3 c = search follow
-
 pub want-spec : {M : Type 1} → statement M
+unfolding wantOf
 want-spec =
     tie.close
     (tie.spec
-    returns
+    (λ c. search follow)  -- returns
     (λ c. search follow)  -- sub-if2
     (λ c. search follow)  -- sub-result
-    returns-2
-    returns-3)
+    (λ c. search follow)  -- returns-2
+    (λ c. search follow))  -- returns-3

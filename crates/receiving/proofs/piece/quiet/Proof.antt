@@ -5,9 +5,9 @@ use Rattle.association.proofs.RefusalLaws.{tests}
 use Rattle.receiving.proofs.piece.quiet.Statement.{statement}
 use Rattle.receiving.proofs.piece.quiet.Tie as tie
 
-returns : tie.Need-returns
-unfolding quietOf
-returns c = search tests
-
 pub quiet-spec : {M : Type 1} → statement M
-quiet-spec = tie.close (tie.spec returns)
+unfolding quietOf
+quiet-spec =
+    tie.close
+    (tie.spec
+    (λ c. search tests))  -- returns

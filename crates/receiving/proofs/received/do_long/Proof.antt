@@ -8,8 +8,7 @@ pub do-long-spec : {M : Type 1} → statement M
 do-long-spec =
     tie.close
     (tie.spec
-    (λ c κs. search deed-laws)  -- on-long-requires
-    (λ c κs. search deed-laws)  -- write-ten-requires
-    (λ c κs. search deed-laws)  -- tells-requires
+    (λ c κs. search deed-laws)  -- cell-requires
+    (λ c κs. search deed-laws)  -- done-requires
     (λ c. search deed-laws)  -- same-length
     (λ c. search deed-laws))  -- returns

@@ -9,6 +9,10 @@ done-spec =
     tie.close
     (tie.spec
     (λ c κs. search deed-laws)  -- ten-by-requires
+    (λ c κs. search deed-laws)  -- write-ten-requires
     (λ c κs. search deed-laws)  -- shows-requires
     (λ c κs. search deed-laws)  -- after-requires
-    (λ c. search deed-laws))  -- returns
+    (λ c. search deed-laws)  -- same-length
+    (λ c. search deed-laws)  -- returns
+    (λ c. search deed-laws)  -- same-length-2
+    (λ c. search deed-laws))  -- returns-2

@@ -1,15 +1,14 @@
--- `gated` meets its contract.
+-- `gate` meets its contract.
 -- Assumes nothing.
 use Rattle.requests.proofs.RequestLaws.{gate-laws}
-use Rattle.requests.proofs.gated.Statement.{statement}
-use Rattle.requests.proofs.gated.Tie as tie
+use Rattle.requests.proofs.gate.Statement.{statement}
+use Rattle.requests.proofs.gate.Tie as tie
 
-pub gated-spec : {M : Type 1} → statement M
-gated-spec =
+pub gate-spec : {M : Type 1} → statement M
+gate-spec =
     tie.close
     (tie.spec
     (λ c κs. search gate-laws)  -- record-refusal-requires
     (λ c. search gate-laws)  -- returns
-    (λ c κs. search gate-laws)  -- local-cell-requires
     (λ c. search gate-laws)  -- returns-2
     (λ c. search gate-laws))  -- returns-3
