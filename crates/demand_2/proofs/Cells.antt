@@ -10,7 +10,7 @@ use lib.Dec.{eqb}
 use lib.ListN.{length, take}
 use lib.Seq.{length-take-le}
 use Rattle.octets.specs.Put.{put}
-use Rattle.framing.specs.Framing.{Frame, frame, Frame.short, Frame.long, Frame.whole}
+use Rattle.framing.specs.Framing.{Frame, frame, Frame.short, Frame.long, Frame.whole, Brought, Brought.pdu, Brought.over-length}
 use Rattle.framing.specs.Engine as eng
 use Rattle.framing.proofs.Framing.{Begins, Begins.at-end, begins}
 use Rattle.framing.proofs.Buffers.{inside, before, take-put}
@@ -18,24 +18,25 @@ use Rattle.framing.proofs.Receive.{receive-dropped, receive-long, receive-whole
 use Rattle.judging.specs.Pdu.{kindOf}
 use Rattle.judging.proofs.KindLaws.{acceptable-none}
 use Rattle.table.specs.ActionNames.{AE-6}
+use Rattle.table.specs.EventNames.{INVALID-RECEIVED}
 use Rattle.table.specs.Table.{cellOf, isReceived}
 use Rattle.table.specs.Actions.{nextOf}
 use Rattle.table.proofs.Right.{hears, heard-filled, dropped-blank, inside as in-table, no-event as no-cell}
 use Rattle.association.specs.declared.Assoc.{Assoc}
-use Rattle.association.specs.Record.{dropping}
+use Rattle.association.specs.Record.{Standing, standing, dropping}
 use Rattle.association.specs.Refusals.{recordRefusal, refusedWith}
-use Rattle.association.specs.Events.{Local, eventOf, eventOfKind, invalidPdu, numberOf}
-use Rattle.association.specs.Performing.{Input, brings, acceptsAt, after}
-use Rattle.association.specs.Machine.{upper, doing, onEvent, onLocal, localCell, requestRefusal}
-use Rattle.association.specs.Calls.{call, withCount, lentOf, heard, receiveRefusal, receiveOf, localRefusal, localOf}
+use Rattle.association.specs.Events.{Local, eventOf, eventOfKind, numberOf}
+use Rattle.association.specs.Performing.{brings, acceptsAt, after, leaving}
+use Rattle.association.specs.Machine.{upper, doing, onEvent, onLocal, localCell}
+use Rattle.association.specs.Calls.{call, lentOf, heard, receiveRefusal, receiveOf, localRefusal, localOf}
 use Rattle.association.proofs.OrderLaws.{local-steps, request-steps}
 use Rattle.demand_2.specs.Cells.{calls, gatheredWith, eventBy, pduBy, eventIn, pduIn, Did, Demand2}
 use Rattle.demand_2.specs.Cells as cells
+use Rattle.demand_2.proofs.Unbroken.{never, Sound}
 use Rattle.demand_2.proofs.Moves.{Received, received-by}
-use Rattle.demand_2.proofs.Unbroken.{Sound}
-use Rattle.demand_2.proofs.Sound.{keeps, entering-state, never}
-use Rattle.demand_2.proofs.Given.{cell-own, next-is}
-use Rattle.demand_2.proofs.Ready.{Receives, receives-of, drops-same}
+use Rattle.demand_2.proofs.Sound.{entering-state}
+use Rattle.demand_2.proofs.Given.{cell-own}
+use Rattle.demand_2.proofs.Ready.{Receives, receives-of}
 use Rattle.demand_2.proofs.Answered.{received, local-done, takes-of}
 
 -- ---- the PDU in the gather buffer is the one in the bytes
@@ -49,114 +50,99 @@ pdu-same g p c n w l h =
 
 -- ---- bytes bring the event
 
-long-received : Received invalidPdu
+long-received : Received INVALID-RECEIVED
 unfolding eventOfKind
 long-received = received-by 0
-
--- what the engine did at an event is what the call tells
-acts-did : (u act ev : ℕ) (a : Assoc) (i : Input) (n k : ℕ) (l : eng.EngineState upper)
-    → Did (heard (eng.acts upper u (doing act ev a i) n k l)) act (doing act ev a i .next .state)
-unfolding heard doing
-acts-did u act ev a i n k l = record { answered = refl; action = refl; state = refl }
-
--- the state after an action
-after-state : (act ev : ℕ) (a : Assoc) (i : Input) → doing act ev a i .next .state ≡ nextOf act (brings act a i .accepts) (a .requestor)
-unfolding doing after
-after-state act ev a i = entering-state _
 
 -- nothing is accepted where no PDU came
 accepts-none : (act : ℕ) → acceptsAt act [] ≡ false
 unfolding acceptsAt
 accepts-none act = rw acceptable-none (and-false (eqb act AE-6))
 
-module _ (a : Assoc) (g p o : List ℕ) (h : receiveRefusal a g o ≡ 0) (d : dropping a ≡ false) where
+-- what the engine did at an event is what the call tells
+event-did : (event : ℕ) (s : Standing) (v : Brought) (u n k : ℕ) (l : eng.EngineState upper)
+    → let act = cellOf event (s .state) in Did (heard (eng.acts upper u (onEvent event s v) n k l)) act (nextOf act (brings act s v .accepts) (s .requestor))
+unfolding heard onEvent doing after
+event-did event s v u n k l = record { answered = refl; action = refl; state = entering-state _ }
+
+module _ (a : Assoc) (g p o : List ℕ) (h : receiveRefusal a g o ≡ 0) (d : dropping (standing a) ≡ false) where
   v : Receives a g o
   v = receives-of a g o h
 
-  at-event : (ev u n k : ℕ) (i : Input) (l : eng.EngineState upper) (pdu : List ℕ) → acceptsAt (cellOf ev (a .state)) pdu ≡ brings (cellOf ev (a .state)) (withCount a 0) i .accepts
-      → Did (heard (eng.acts upper u (onEvent ev (withCount a 0) i) n k l)) (cellOf ev (a .state)) (nextOf (cellOf ev (a .state)) (acceptsAt (cellOf ev (a .state)) pdu) (a .requestor))
-  unfolding onEvent
-  at-event ev u n k i l pdu e =
-      rw (e, ← after-state (cellOf ev (a .state)) ev (withCount a 0) i) (acts-did u (cellOf ev (a .state)) ev (withCount a 0) i n k l)
+  abbrev bytes : List ℕ
+  bytes = gatheredWith a g p
 
-  heard-by : (f : Frame) → frame 16384 (gatheredWith a g p) ≡ f → Begins 16384 (take (a .gathered) g) p f
-      → 0 < cellOf (eventBy a f (gatheredWith a g p)) (a .state)
-      → Did (receiveOf a g p o) (cellOf (eventBy a f (gatheredWith a g p)) (a .state))
-      (nextOf (cellOf (eventBy a f (gatheredWith a g p)) (a .state)) (acceptsAt (cellOf (eventBy a f (gatheredWith a g p)) (a .state)) (pduBy f (gatheredWith a g p))) (a .requestor))
+  heard-by : (f : Frame) → frame 16384 bytes ≡ f → Begins 16384 (take (a .gathered) g) p f
+      → let act = cellOf (eventBy (standing a) f bytes) (a .state) in
+      0 < act → Did (receiveOf a g p o) act (nextOf act (acceptsAt act (pduBy f bytes)) (a .requestor))
   unfolding eventOf
   heard-by short e b c = absurd (omega (arith, no-cell 0 (a .state) (omega arith)))
   heard-by long e b c =
-      rw (received a g p o h, receive-long upper (lentOf a g o) p (drops-same a 0 ∙ d) e)
-      (at-event invalidPdu (6 - a .gathered) 0 0 Input.long (eng.gathering upper (lentOf a g o) (take (6 - a .gathered) p)) [] (accepts-none (cellOf invalidPdu (a .state))))
+      rw (received a g p o h, receive-long upper (lentOf a g o) p d e, accepts-none (cellOf INVALID-RECEIVED (a .state)))
+      (event-did INVALID-RECEIVED (standing a) over-length (6 - a .gathered) 0 0 (eng.gathering upper (lentOf a g o) (take (6 - a .gathered) p)))
   heard-by (whole n) e (at-end x y z w t) c =
       let lg : length (take (a .gathered) g) ≡ a .gathered = length-take-le (a .gathered) g (v .within) in
-      let q : take n (put g (a .gathered) (take (n - a .gathered) p)) ≡ take n (gatheredWith a g p) = pdu-same g p (a .gathered) n (v .within) (omega arith) z in
-      rw (received a g p o h, receive-whole upper (lentOf a g o) p (drops-same a 0 ∙ d) n e, q)
-      (at-event (eventOf a (take n (gatheredWith a g p))) (n - a .gathered) n 0 (Input.whole (take n (gatheredWith a g p)))
-      (eng.gathering upper (lentOf a g o) (take (n - a .gathered) p)) (take n (gatheredWith a g p)) refl)
+      let q : take n (put g (a .gathered) (take (n - a .gathered) p)) ≡ take n bytes = pdu-same g p (a .gathered) n (v .within) (omega arith) z in
+      rw (received a g p o h, receive-whole upper (lentOf a g o) p d n e, q)
+      (event-did (eventOf (standing a) (take n bytes)) (standing a) (pdu (take n bytes)) (n - a .gathered) n 0 (eng.gathering upper (lentOf a g o) (take (n - a .gathered) p)))
 
 -- the event is one that bytes bring
-brought-by : (a : Assoc) (f : Frame) (s : List ℕ) → 0 < cellOf (eventBy a f s) (a .state) → Received (eventBy a f s)
+brought-by : (s : Standing) (f : Frame) (bytes : List ℕ) → 0 < cellOf (eventBy s f bytes) (s .state) → Received (eventBy s f bytes)
 unfolding eventOf
-brought-by a short s c = absurd (omega (arith, no-cell 0 (a .state) (omega arith)))
-brought-by a long s c = long-received
-brought-by a (whole n) s c = received-by (kindOf (take n s))
+brought-by s short bytes c = absurd (omega (arith, no-cell 0 (s .state) (omega arith)))
+brought-by s long bytes c = long-received
+brought-by s (whole n) bytes c = received-by (kindOf (take n bytes))
 
 -- bytes are heard where such a cell is filled
-hears-by : (a : Assoc) (e : ℕ) → Received e → 0 < cellOf e (a .state) → a .deaf ≡ false → dropping a ≡ false
+hears-by : (s : Standing) (e : ℕ) → Received e → 0 < cellOf e (s .state) → s .deaf ≡ false → dropping s ≡ false
 unfolding dropping
-hears-by a e r c d = by (eqb (a .state) 1) refl (eqb (a .state) 4) refl
+hears-by s e r c d = by (eqb (s .state) 1) refl (eqb (s .state) 4) refl
   where
-    blank : hears (a .state) ≡ false → dropping a ≡ false
+    blank : hears (s .state) ≡ false → dropping s ≡ false
     blank n =
-        let i = in-table e (a .state) c in
-        absurd (omega (arith, dropped-blank e (a .state) (i .event-low) (i .event-high) (i .state-low) (i .state-high) (r .row) n))
+        let i = in-table e (s .state) c in
+        absurd (omega (arith, dropped-blank e (s .state) (i .event-low) (i .event-high) (i .state-low) (i .state-high) (r .row) n))
 
-    by : (x : Bool) → eqb (a .state) 1 ≡ x → (y : Bool) → eqb (a .state) 4 ≡ y → dropping a ≡ false
+    by : (x : Bool) → eqb (s .state) 1 ≡ x → (y : Bool) → eqb (s .state) 4 ≡ y → dropping s ≡ false
     by true p y q = blank (rw p)
     by false p true q = blank (rw (p, q))
     by false p false q = rw (p, q) d
 
-brought-at : (a : Assoc) (g p o : List ℕ) → receiveRefusal a g o ≡ 0 → a .deaf ≡ false → 0 < cellOf (eventIn a g p) (a .state)
-    → Did (receiveOf a g p o) (cellOf (eventIn a g p) (a .state))
-    (nextOf (cellOf (eventIn a g p) (a .state)) (acceptsAt (cellOf (eventIn a g p) (a .state)) (pduIn a g p)) (a .requestor))
+brought-at : (a : Assoc) (g p o : List ℕ) → receiveRefusal a g o ≡ 0 → a .deaf ≡ false
+    → let act = cellOf (eventIn a g p) (a .state) in 0 < act → Did (receiveOf a g p o) act (nextOf act (acceptsAt act (pduIn a g p)) (a .requestor))
 unfolding eventIn pduIn
 brought-at a g p o h d c =
-    let r = brought-by a (frame 16384 (gatheredWith a g p)) (gatheredWith a g p) c in
-    heard-by a g p o h (hears-by a (eventBy a (frame 16384 (gatheredWith a g p)) (gatheredWith a g p)) r c d) (frame 16384 (gatheredWith a g p)) refl
-    (begins 16384 (take (a .gathered) g) p (receives-of a g o h .quiet)) c
+    let f = frame 16384 (gatheredWith a g p) in
+    let r = brought-by (standing a) f (gatheredWith a g p) c in
+    heard-by a g p o h (hears-by (standing a) (eventBy (standing a) f (gatheredWith a g p)) r c d) f refl (begins 16384 (take (a .gathered) g) p (receives-of a g o h .quiet)) c
 
 -- ---- a blank cell of a received PDU
 
-drops-by : (a : Assoc) (b : Bool) → hears (a .state) ≡ b → b ≡ false → dropping a ≡ true
+drops-by : (s : Standing) (b : Bool) → hears (s .state) ≡ b → b ≡ false → dropping s ≡ true
 unfolding dropping
-drops-by a b h e = by (eqb (a .state) 1) refl (eqb (a .state) 4) refl
+drops-by s b h e = by (eqb (s .state) 1) refl (eqb (s .state) 4) refl
   where
-    by : (x : Bool) → eqb (a .state) 1 ≡ x → (y : Bool) → eqb (a .state) 4 ≡ y → dropping a ≡ true
+    by : (x : Bool) → eqb (s .state) 1 ≡ x → (y : Bool) → eqb (s .state) 4 ≡ y → dropping s ≡ true
     by true p y q = rw p
     by false p true q = rw (p, q)
     by false p false q = never b e (sym h ∙ rw (p, q))
 
-dropped-at : (a : Assoc) (g p o : List ℕ) → receiveRefusal a g o ≡ 0 → dropping a ≡ true → receiveOf a g p o ≡ cells.usesAll a g p o
+dropped-at : (a : Assoc) (g p o : List ℕ) → receiveRefusal a g o ≡ 0 → dropping (standing a) ≡ true → receiveOf a g p o ≡ cells.usesAll a g p o
 unfolding heard
-dropped-at a g p o h d = received a g p o h ∙ ap heard (receive-dropped upper (lentOf a g o) p (drops-same a 0 ∙ d))
+dropped-at a g p o h d = received a g p o h ∙ ap heard (receive-dropped upper (lentOf a g o) p d)
 
 dropped-blank-at : (a : Assoc) (g p o : List ℕ) (e : ℕ) → 1 ≤ e → e ≤ 19 → receiveRefusal a g o ≡ 0 → isReceived e ≡ true → cellOf e (a .state) ≡ 0
     → receiveOf a g p o ≡ cells.usesAll a g p o
 dropped-blank-at a g p o e e₁ e₂ h r c = dropped-at a g p o h (by (hears (a .state)) refl)
   where
-    S : Sound a
-    S = receives-of a g o h .fine-record .sound
+    S : Sound (standing a)
+    S = receives-of a g o h .fine-record .whole .sound
 
-    by : (b : Bool) → hears (a .state) ≡ b → dropping a ≡ true
+    by : (b : Bool) → hears (a .state) ≡ b → dropping (standing a) ≡ true
     by true q = absurd (omega (arith, heard-filled e (a .state) e₁ (omega arith) (S .low) (S .high) r q))
-    by false q = drops-by a false q refl
+    by false q = drops-by (standing a) false q refl
 
 -- ---- the host gives the event
-
-moved-state : (act : ℕ) (a : Assoc) → after act a (keeps a) .state ≡ nextOf act false (a .requestor)
-unfolding after
-moved-state act a = entering-state _
 
 blank-cell : (n s : ℕ) → cellOf n s ≡ 0 → localCell n s ≡ 0
 unfolding localCell
@@ -167,24 +153,23 @@ blank-cell n s c = by (isReceived n)
     by false = c
 
 module _ (a : Assoc) (g o : List ℕ) (e : Local) where
-  given-at : localRefusal a g o e ≡ 0 → Did (localOf a g o e) (cellOf (numberOf e) (a .state)) (nextOf (cellOf (numberOf e) (a .state)) false (a .requestor))
-  unfolding onLocal doing
+  given-at : localRefusal a g o e ≡ 0 → let act = cellOf (numberOf e) (a .state) in Did (localOf a g o e) act (nextOf act false (a .requestor))
+  unfolding onLocal doing after leaving
   given-at h =
-      let t = takes-of a g o e h in
-      let c = cell-own a e (length o) (t .request-fine) in
-      let s : onLocal a e .next .state ≡ nextOf (localCell (numberOf e) (a .state)) false (a .requestor) = ap (λ (x : Assoc). x .state) (next-is a e) ∙ moved-state (localCell (numberOf e) (a .state)) a in
-      rw (local-done a g o e h) (record { answered = refl; action = c .same; state = s ∙ ap (λ (n : ℕ). nextOf n false (a .requestor)) (c .same) })
+      let c = cell-own (standing a) e (length o) (takes-of a g o e h .request-fine) in
+      rw (local-done a g o e h)
+      (record { answered = refl; action = c .same; state = entering-state _ ∙ ap (λ (n : ℕ). nextOf n false (a .requestor)) (c .same) })
 
   blank-at : recordRefusal a g (a .gathered) ≡ 0 → cellOf (numberOf e) (a .state) ≡ 0 → localOf a g o e ≡ call (refusedWith 1 a) g o
   unfolding localOf
   blank-at h c =
       let z : localCell (numberOf e) (a .state) ≡ 0 = blank-cell (numberOf e) (a .state) c in
-      rw (local-steps a g o e, h, request-steps a e (length o), z)
+      rw (local-steps a g o e, h, request-steps (standing a) e (length o), z)
 
 -- ---- a deaf association
-deaf-drops : (a : Assoc) → a .deaf ≡ true → dropping a ≡ true
+deaf-drops : (s : Standing) → s .deaf ≡ true → dropping s ≡ true
 unfolding dropping
-deaf-drops a d = rw (d, or-true (eqb (a .state) 4)) (or-true (eqb (a .state) 1))
+deaf-drops s d = rw (d, or-true (eqb (s .state) 4)) (or-true (eqb (s .state) 1))
 
 -- ---- the 247 cells, and the deaf association
 pub demand-2 : Demand2 calls
@@ -200,5 +185,5 @@ demand-2 =
             given = λ a g o l q h v. rw (← q, ← v) (given-at a g o l h);
             refused = λ a g o l q h v c. blank-at a g o l h (rw (v, q) c);
           };
-      deaf = λ a g p o h d. dropped-at a g p o h (deaf-drops a d);
+      deaf = λ a g p o h d. dropped-at a g p o h (deaf-drops (standing a) d);
     }

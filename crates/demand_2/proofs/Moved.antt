@@ -1,99 +1,65 @@
--- What a local event makes of the record: it keeps the bytes gathered, unless it enters Sta1.
+-- What a local event makes of the count: it keeps the bytes gathered, unless it enters Sta1. That is the reference's count, which is 0 where bytes are dropped.
 -- Assumes nothing.
-use Prim.Native.Nat.{ℕ, _<_}
-use mathlib.Core.Path.{_≡_, refl, sym}
+use Prim.Native.Nat.{ℕ, _≤_, _<_}
+use mathlib.Core.Path.{_≡_, refl, sym, ap}
 use mathlib.Core.Bool.{Bool, true, false, cond, _||_}
 use mathlib.Core.List.{List}
 use native.Mathlib.Omega.{arith}
 use lib.Dec.{eqb}
-use borrow.Author.Tests.{eq-eqb, ne-eqb, eqb-true, eqb-false}
+use lib.ListN.{length}
 use Rattle.table.specs.Table.{cellOf}
-use Rattle.table.specs.Actions.{nextOf, artimOf}
+use Rattle.table.specs.Actions.{nextOf}
 use Rattle.association.specs.declared.Assoc.{Assoc}
-use Rattle.association.specs.Record.{dropping}
+use Rattle.association.specs.Record.{Standing, standing, withGathered, dropping, badLength}
 use Rattle.association.specs.Events.{Local, numberOf}
-use Rattle.association.specs.Performing.{after, entering, requestorAfter}
+use Rattle.association.specs.Performing.{keeps, after, entering, leaving}
 use Rattle.association.specs.Machine.{onLocal, requestRefusal}
-use Rattle.association.specs.Calls.{withCount}
-use Rattle.demand_2.proofs.Unbroken.{Sound, Fine}
 use Rattle.association.proofs.RefusalLaws.{few-gathered}
-use Rattle.demand_2.proofs.Sound.{keeps, none-gathered}
-use Rattle.demand_2.proofs.Given.{next-at, sound-local}
+use Rattle.demand_2.proofs.Unbroken.{never, Sound, Whole, Fine}
+use Rattle.demand_2.proofs.Sound.{dropped-before}
+use Rattle.demand_2.proofs.Given.{cell-own, next-at, sound-local}
 
--- the record that enters a state by it
-abbrev entered : ℕ → Assoc → ℕ → Assoc
-entered act a n =
-    record {
-      state = nextOf act false (a .requestor);
-      gathered = n;
-      deaf = a .deaf;
-      artim = artimOf act false (a .artim);
-      requestor = requestorAfter act a;
-      «peer_max» = a .«peer_max»;
-    }
+module _ (s : Standing) (S : Sound s) (e : ℕ) (f : 0 < cellOf e (s .state)) (n : ℕ) (none : dropping s ≡ true → n ≡ 0) where
+  abbrev next : Standing
+  next = after (cellOf e (s .state)) s (keeps s)
 
-abbrev left : ℕ → Assoc → Assoc
-left act a = record { state = nextOf act false (a .requestor); gathered = 0; deaf = false; artim = artimOf act false (a .artim); requestor = false; «peer_max» = 0 }
+  abbrev to : ℕ
+  to = nextOf (cellOf e (s .state)) false (s .requestor)
 
--- it does not look at the count
-pub moved-same : (act : ℕ) (a : Assoc) → withCount (after act a (keeps a)) 0 ≡ after act (withCount a 0) (keeps (withCount a 0))
-unfolding after entering requestorAfter
-moved-same act a = by (eqb (nextOf act false (a .requestor)) 1)
-  where
-    by : (b : Bool) → withCount (cond b (left act a) (entered act a (a .gathered))) 0 ≡ cond b (left act a) (entered act a 0)
-    by true = refl
-    by false = refl
+  kept : (b : Bool) → (eqb to 4 || s .deaf) ≡ b → cond b 0 n ≡ n
+  kept true t = sym (none (dropped-before s S e f t))
+  kept false t = refl
 
-module _ (act : ℕ) (a : Assoc) where
-  pub count-1 : nextOf act false (a .requestor) ≡ 1 → after act a (keeps a) .gathered ≡ 0
-  unfolding after entering
-  count-1 e = rw (eq-eqb (nextOf act false (a .requestor)) 1 e)
-
-  pub count-else : (nextOf act false (a .requestor) ≡ 1 → ⊥) → after act a (keeps a) .gathered ≡ a .gathered
-  unfolding after entering
-  count-else n = rw (ne-eqb (nextOf act false (a .requestor)) 1 n)
-
-  pub drops-1 : nextOf act false (a .requestor) ≡ 1 → dropping (after act a (keeps a)) ≡ true
+  count-by : (b : Bool) → eqb to 1 ≡ b → cond (dropping next) 0 n ≡ cond (eqb (next .state) 1) 0 n
   unfolding after entering dropping
-  drops-1 e = let q : eqb (nextOf act false (a .requestor)) 1 ≡ true = eq-eqb _ 1 e in rw (q, q)
+  count-by true q = rw q (rw q)
+  count-by false q = rw q (rw q (kept _ refl))
 
-  pub drops-else : (nextOf act false (a .requestor) ≡ 1 → ⊥) → dropping (after act a (keeps a)) ≡ (eqb (nextOf act false (a .requestor)) 4 || a .deaf)
-  unfolding after entering dropping
-  drops-else n = let q : eqb (nextOf act false (a .requestor)) 1 ≡ false = ne-eqb _ 1 n in rw (q, q)
+  same-count : cond (dropping next) 0 n ≡ cond (eqb (next .state) 1) 0 n
+  same-count = count-by (eqb to 1) refl
 
--- where bytes are dropped from now on, none are gathered
-module _ (a : Assoc) (S : Sound a) (n : ℕ) (f : 0 < cellOf n (a .state)) where
-  abbrev act : ℕ
-  act = cellOf n (a .state)
+module _ (a : Assoc) (e : Local) (room : ℕ) (w : Whole a) (h : requestRefusal (standing a) e room ≡ 0) where
+  abbrev moves : Standing
+  moves = onLocal (standing a) e .next
 
-  -- the count is that of the reference, which gathers nothing where bytes are dropped
-  pub moved-count : cond (dropping (after act (withCount a 0) (keeps (withCount a 0)))) 0 (a .gathered) ≡ after act a (keeps a) .gathered
-  moved-count = by (eqb (nextOf act false (a .requestor)) 1) refl
-    where
-      inner : (x : Bool) → (eqb (nextOf act false (a .requestor)) 4 || a .deaf) ≡ x → cond x 0 (a .gathered) ≡ a .gathered
-      inner true e = sym (none-gathered a S n f (dropping a) refl e)
-      inner false e = refl
+  pub local-left : withGathered moves (cond (dropping moves) 0 (a .gathered)) ≡ leaving moves (a .gathered)
+  unfolding leaving
+  local-left =
+      rw (next-at (standing a) e room h)
+      (ap (withGathered (after (cellOf (numberOf e) (a .state)) (standing a) (keeps (standing a))))
+      (same-count (standing a) (w .sound) (numberOf e) (cell-own (standing a) e room h .filled) (a .gathered) (w .dropped)))
 
-      by : (b : Bool) → eqb (nextOf act false (a .requestor)) 1 ≡ b
-          → cond (dropping (after act (withCount a 0) (keeps (withCount a 0)))) 0 (a .gathered) ≡ after act a (keeps a) .gathered
-      by true e = let q = eqb-true _ _ e in rw (drops-1 act (withCount a 0) q, count-1 act a q)
-      by false e = let q = eqb-false _ _ e in rw (drops-else act (withCount a 0) q, count-else act a q) (inner _ refl)
+-- with no bytes gathered, or with those that were
+fine-left : (s : Standing) (n : ℕ) (g : List ℕ) → Sound s → n ≤ 16389 → n ≤ length g → badLength n g ≡ false → (b : Bool) → dropping s ≡ b
+    → Fine (withGathered s (cond b 0 n)) g (cond b 0 n)
+fine-left s n g S few room good true d =
+    record { whole = record { sound = S; few = omega arith; dropped = λ _. refl }; room = omega arith; length-good = sym (few-gathered 0 g (omega arith)) }
+fine-left s n g S few room good false d = record { whole = record { sound = S; few = few; dropped = λ t. never _ d t }; room = room; length-good = good }
 
 -- a local event leaves a record that is not broken over the gather buffer
-moved-fine : (act : ℕ) (a : Assoc) (g : List ℕ) → Fine a g (a .gathered) → Sound (after act a (keeps a))
-    → Fine (after act a (keeps a)) g (after act a (keeps a) .gathered)
-moved-fine act a g F S = by (eqb (nextOf act false (a .requestor)) 1) refl
-  where
-    by : (b : Bool) → eqb (nextOf act false (a .requestor)) 1 ≡ b → Fine (after act a (keeps a)) g (after act a (keeps a) .gathered)
-    by true e =
-        let q = count-1 act a (eqb-true _ _ e) in
-        record { sound = S; room = omega (arith, q); length-good = rw q (sym (few-gathered 0 g (omega arith))) }
-    by false e =
-        let q = count-else act a (eqb-false _ _ e) in
-        record { sound = S; room = omega (arith, q, F .room); length-good = rw q (F .length-good) }
-
-pub local-fine : (a : Assoc) (g : List ℕ) (e : Local) (room : ℕ) → Fine a g (a .gathered) → requestRefusal a e room ≡ 0
-    → Fine (onLocal a e .next) g (onLocal a e .next .gathered)
+pub local-fine : (a : Assoc) (g : List ℕ) (e : Local) (room : ℕ) → Fine a g (a .gathered) → requestRefusal (standing a) e room ≡ 0
+    → let left = leaving (onLocal (standing a) e .next) (a .gathered) in Fine left g (left .gathered)
 local-fine a g e room F h =
-    let m = next-at a e room h in
-    rw m (moved-fine (cellOf (numberOf e) (a .state)) a g F (rw m at (sound-local a e room h (F .sound))))
+    let w = F .whole in
+    rw (← local-left a e room w h)
+    (fine-left (onLocal (standing a) e .next) (a .gathered) g (sound-local (standing a) e room h (w .sound)) (w .few) (F .room) (F .length-good) (dropping (onLocal (standing a) e .next)) refl)

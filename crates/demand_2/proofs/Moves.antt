@@ -5,15 +5,18 @@ use Prim.Native.Nat.{ℕ, _≤_, _<_}
 use mathlib.Core.Path.{_≡_, refl}
 use mathlib.Core.Bool.{Bool, true, false, cond, not, _&&_, Bool·beq}
 use native.Mathlib.Omega.{arith}
-use lib.Dec.{T, eqb, eqb→eq}
-use borrow.Author.Tests.{eq-eqb, ne-eqb, eqb-false}
+use native.Mathlib.Decide.{decLt}
+use lib.Dec.{T, eqb, ltb, eqb→eq}
+use borrow.Author.Tests.{eq-eqb, ne-eqb, eqb-false, ltb-true}
 use Rattle.laws.specs.Lists.{among}
-use Rattle.laws.proofs.Booleans.{T-left, T-right}
+use Rattle.laws.proofs.Booleans.{holds, T-left, T-right}
+use Rattle.laws.proofs.Below.{allBelow, below}
+use Rattle.table.specs.EventNames.{INVALID-RECEIVED}
 use Rattle.table.specs.Table.{table, cellOf, isReceived}
 use Rattle.table.specs.Actions.{actions, doesOf, nextOf, artimOf}
 use Rattle.table.proofs.Right.{filled, each-filled}
 use Rattle.association.specs.Record.{timed}
-use Rattle.association.specs.Events.{eventOfKind, invalidPdu}
+use Rattle.association.specs.Events.{eventOfKind}
 
 pub beq-eq : (a b : Bool) → T (Bool·beq a b) → a ≡ b
 beq-eq true true t = refl
@@ -26,10 +29,10 @@ not-held true t = absurd t
 not-held false t = refl
 
 -- a test of two answers, whatever they are
-abbrev both : (Bool → Bool) → Bool
+abbrev pub both : (Bool → Bool) → Bool
 both f = f true && f false
 
-both-at : (f : Bool → Bool) → T (both f) → (b : Bool) → T (f b)
+pub both-at : (f : Bool → Bool) → T (both f) → (b : Bool) → T (f b)
 both-at f t true = T-left (f true) (f false) t
 both-at f t false = T-right (f true) (f false) t
 
@@ -78,14 +81,14 @@ from-13 e s h r n q =
     eqb→eq _ _ (both-at (λ q. eqb (nextOf (cellOf e s) false q) 1) t q)
 
 abbrev closing : ℕ → ℕ → Bool
-closing e s = cond (eqb e invalidPdu) (both (λ q. eqb (nextOf (cellOf e s) false q) 13)) true
+closing e s = cond (eqb e INVALID-RECEIVED) (both (λ q. eqb (nextOf (cellOf e s) false q) 13)) true
 
 closings : T (filled closing)
 unfolding cellOf table nextOf doesOf actions
 closings = tt
 
-pub to-13 : (s : ℕ) → 0 < cellOf invalidPdu s → (q : Bool) → nextOf (cellOf invalidPdu s) false q ≡ 13
-to-13 s h q = eqb→eq _ _ (both-at (λ q. eqb (nextOf (cellOf invalidPdu s) false q) 13) (each-filled closing closings invalidPdu s h) q)
+pub to-13 : (s : ℕ) → 0 < cellOf INVALID-RECEIVED s → (q : Bool) → nextOf (cellOf INVALID-RECEIVED s) false q ≡ 13
+to-13 s h q = eqb→eq _ _ (both-at (λ q. eqb (nextOf (cellOf INVALID-RECEIVED s) false q) 13) (each-filled closing closings INVALID-RECEIVED s h) q)
 
 -- ---- the events that bytes bring
 
@@ -94,16 +97,36 @@ pub record Received (e : ℕ) : Type 0 where
   pub low : 1 ≤ e
   pub high : e < 20
 
-pub received-by : (k : ℕ) → Received (eventOfKind k)
-unfolding eventOfKind isReceived among
-received-by k = by (eqb k 1) (eqb k 2) (eqb k 3) (eqb k 4) (eqb k 5) (eqb k 6) (eqb k 7)
+-- any other than the seven kinds is invalid
+pub other-kind : (k : ℕ) → 8 ≤ k → eventOfKind k ≡ INVALID-RECEIVED
+unfolding eventOfKind
+other-kind k h =
+    let n : (i : ℕ) → i < 8 → eqb k i ≡ false = λ i l. ne-eqb k i (λ z. omega arith) in
+    rw (n 1 (omega arith), n 2 (omega arith), n 3 (omega arith), n 4 (omega arith), n 5 (omega arith), n 6 (omega arith), n 7 (omega arith))
+
+-- a test of a kind and its event, of the seven and of the others
+pub each-kind : (f : ℕ → ℕ → Bool) → T (allBelow 8 (λ k. f k (eventOfKind k))) → ((k : ℕ) → 8 ≤ k → T (f k INVALID-RECEIVED)) → (k : ℕ) → T (f k (eventOfKind k))
+each-kind f t u k = by (decLt k 8)
   where
-    by : (a b c d e f g : Bool) → Received (cond a 6 (cond b 3 (cond c 4 (cond d 10 (cond e 12 (cond f 13 (cond g 16 19)))))))
-    by true b c d e f g = record { row = refl; low = omega arith; high = omega arith }
-    by false true c d e f g = record { row = refl; low = omega arith; high = omega arith }
-    by false false true d e f g = record { row = refl; low = omega arith; high = omega arith }
-    by false false false true e f g = record { row = refl; low = omega arith; high = omega arith }
-    by false false false false true f g = record { row = refl; low = omega arith; high = omega arith }
-    by false false false false false true g = record { row = refl; low = omega arith; high = omega arith }
-    by false false false false false false true = record { row = refl; low = omega arith; high = omega arith }
-    by false false false false false false false = record { row = refl; low = omega arith; high = omega arith }
+    by : Dec (k < 8) → T (f k (eventOfKind k))
+    by (yes l) = below 8 (λ k. f k (eventOfKind k)) t k l
+    by (no l) = let h : 8 ≤ k = omega arith in rw (other-kind k h) (u k h)
+
+abbrev brought : ℕ → ℕ → Bool
+brought k e = isReceived e && (ltb 0 e && ltb e 20)
+
+broughts : T (allBelow 8 (λ k. brought k (eventOfKind k)))
+unfolding eventOfKind isReceived among
+broughts = tt
+
+pub received-by : (k : ℕ) → Received (eventOfKind k)
+unfolding isReceived among
+received-by k =
+    let t = each-kind brought broughts (λ k h. tt) k in
+    let e = eventOfKind k in
+    let u = T-right (isReceived e) (ltb 0 e && ltb e 20) t in
+    record {
+      row = holds _ (T-left (isReceived e) _ t);
+      low = ltb-true 0 e (holds _ (T-left (ltb 0 e) _ u));
+      high = ltb-true e 20 (holds _ (T-right (ltb 0 e) _ u));
+    }

@@ -14,12 +14,13 @@ use Rattle.octets.specs.Octets.{be16, be32}
 use Rattle.reasons.specs.Values.{rejectReasons, rejectOk, abortOk}
 use Rattle.judging.specs.Pdu.{whole, validAs, rejectPduOk, releaseOk, abortPduOk, kindOf}
 use Rattle.writing.specs.Ten.{NO-TEN, ABORT-UNRECOGNIZED, ABORT-UNEXPECTED, ABORT-INVALID, tens, tenOf}
+use Rattle.table.specs.EventNames.{INVALID-RECEIVED}
 use Rattle.table.specs.Table.{table, cellOf, isReceived}
 use Rattle.table.specs.Actions.{actions, doesOf, nextOf}
 use Rattle.table.proofs.Right.{filled, each-filled}
-use Rattle.association.specs.Events.{invalidPdu}
+use Rattle.association.specs.Events.{carries}
 use Rattle.association.specs.Performing.{abortFor, tenBy}
-use Rattle.demand_2.proofs.Moves.{beq-eq}
+use Rattle.demand_2.proofs.Moves.{beq-eq, both, both-at}
 use Rattle.demand_2.specs.Sent.{kindNamed, sendsContents}
 
 -- ---- the ten-byte PDUs
@@ -44,14 +45,7 @@ ten (suc (suc (suc (suc (suc (suc zero)))))) = record { kind = refl; none = λ z
 ten (suc (suc (suc (suc (suc (suc (suc zero))))))) = record { kind = refl; none = λ z. absurd (omega arith) }
 ten (suc (suc (suc (suc (suc (suc (suc (suc k)))))))) = record { kind = refl; none = λ z. refl }
 
--- ---- the tests: of either truth value, and of any A-ABORT for a received PDU
-abbrev both : (Bool → Bool) → Bool
-both f = f true && f false
-
-both-at : (f : Bool → Bool) → T (both f) → (b : Bool) → T (f b)
-both-at f t true = T-left (f true) (f false) t
-both-at f t false = T-right (f true) (f false) t
-
+-- ---- a test of any A-ABORT for a received PDU
 abbrev anyAbort : (ℕ → Bool) → Bool
 anyAbort f = f ABORT-UNRECOGNIZED && (f ABORT-UNEXPECTED && f ABORT-INVALID)
 
@@ -63,7 +57,7 @@ is-invalid f t = T-right (f ABORT-UNEXPECTED) (f ABORT-INVALID) (T-right (f ABOR
 
 pub is-abort : (event type : ℕ) → IsAbort (abortFor event type)
 unfolding abortFor
-is-abort event type f t = by (eqb event invalidPdu) (ltb type 1 || ltb 7 type)
+is-abort event type f t = by (eqb event INVALID-RECEIVED) (ltb type 1 || ltb 7 type)
   where
     by : (x y : Bool) → T (f (cond x (cond y ABORT-UNRECOGNIZED ABORT-INVALID) ABORT-UNEXPECTED))
     by true true = T-left (f ABORT-UNRECOGNIZED) (f ABORT-UNEXPECTED && f ABORT-INVALID) t
@@ -76,22 +70,18 @@ is-abort event type f t = by (eqb event invalidPdu) (ltb type 1 || ltb 7 type)
 abbrev pub naming : ℕ → Bool → Bool → ℕ
 naming action accepts requestor = kindNamed action (nextOf action accepts requestor)
 
--- the local events with contents
-abbrev pub hasContents : ℕ → Bool
-hasContents event = among event (2 ∷ 7 ∷ 8 ∷ 9 ∷ [])
-
 -- the kind that a local event sends: by its contents, or the action's own PDU
 abbrev pub givenKind : ℕ → ℕ → ℕ
-givenKind event action = cond (hasContents event) (getD (0 ∷ 0 ∷ 1 ∷ 0 ∷ 0 ∷ 0 ∷ 0 ∷ 2 ∷ 3 ∷ 4 ∷ []) event 0) (tenKind (tenBy action false NO-TEN))
+givenKind event action = cond (carries event) (getD (0 ∷ 0 ∷ 1 ∷ 0 ∷ 0 ∷ 0 ∷ 0 ∷ 2 ∷ 3 ∷ 4 ∷ []) event 0) (tenKind (tenBy action false NO-TEN))
 
 abbrev heardRight : ℕ → Bool
 heardRight action = both (λ p. both (λ q. anyAbort (λ w. eqb (naming action p q) (tenKind (tenBy action p w)))))
 
 abbrev givenRight : ℕ → ℕ → Bool
-givenRight event action = both (λ q. eqb (naming action false q) (givenKind event action)) && Bool·beq (sendsContents action) (hasContents event)
+givenRight event action = both (λ q. eqb (naming action false q) (givenKind event action)) && Bool·beq (sendsContents action) (carries event)
 
 tested : T (filled (λ e s. cond (isReceived e) (heardRight (cellOf e s)) (givenRight e (cellOf e s))))
-unfolding cellOf table isReceived among kindNamed nextOf doesOf actions tenBy sendsContents
+unfolding cellOf table isReceived carries among kindNamed nextOf doesOf actions tenBy sendsContents
 tested = tt
 
 -- no action at all
@@ -124,5 +114,5 @@ module _ (e s : ℕ) where
         eqb→eq _ _ (both-at (λ q. eqb (naming (cellOf e s) false q) (givenKind e (cellOf e s)))
         (T-left (both (λ q. eqb (naming (cellOf e s) false q) (givenKind e (cellOf e s)))) _ given-right) q)
 
-    pub contents-sent : sendsContents (cellOf e s) ≡ hasContents e
+    pub contents-sent : sendsContents (cellOf e s) ≡ carries e
     contents-sent = beq-eq _ _ (T-right (both (λ q. eqb (naming (cellOf e s) false q) (givenKind e (cellOf e s)))) _ given-right)

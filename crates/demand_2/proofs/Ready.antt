@@ -1,8 +1,7 @@
 -- Where refusals 6, 3 and 2 do not come, the engine of framing is ready, and back: its record is not broken over the gather buffer, and both buffers have room.
 -- Assumes nothing.
 use Prim.Native.Nat.{ℕ, _≤_}
-use mathlib.Core.Path.{_≡_, refl, sym, _∙_}
-use mathlib.Core.Bool.{true, false}
+use mathlib.Core.Path.{_≡_}
 use mathlib.Core.List.{List}
 use native.Mathlib.Omega.{arith}
 use lib.ListN.{length, take}
@@ -13,36 +12,13 @@ use Rattle.framing.specs.Engine as eng
 use Rattle.framing.proofs.Framing.{no-event-fits}
 use Rattle.framing.proofs.Ready.{Ready}
 use Rattle.association.specs.declared.Assoc.{Assoc}
-use Rattle.association.specs.Record.{dropping, brokenOver}
+use Rattle.association.specs.Record.{withGathered}
 use Rattle.association.specs.Refusals.{recordRefusal}
 use Rattle.association.specs.Machine.{upper}
-use Rattle.association.specs.Calls.{withCount, lentOf, receiveRefusal}
+use Rattle.association.specs.Calls.{lentOf, receiveRefusal}
 use Rattle.association.proofs.OrderLaws.{receive-steps, receive-passed}
-use Rattle.demand_2.proofs.Unbroken.{Sound, Fine, fine, not-broken, not-refused, quiet-of, good-length}
+use Rattle.demand_2.proofs.Unbroken.{Fine, fine, not-refused, quiet-of, good-length}
 use Rattle.demand_2.proofs.Kept.{upper-laws}
-
-pub drops-same : (a : Assoc) (n : ℕ) → dropping (withCount a n) ≡ dropping a
-unfolding dropping
-drops-same a n = refl
-
--- a record with another count
-pub sound-count : (a : Assoc) (n : ℕ) → Sound a → n ≤ 16389 → (dropping a ≡ true → n ≡ 0) → Sound (withCount a n)
-sound-count a n S h d =
-    record {
-      low = S .low;
-      high = S .high;
-      few = h;
-      dropped = λ q. d (sym (drops-same a n) ∙ q);
-      deaf = S .deaf;
-      timed = S .timed;
-      unmarked = S .unmarked;
-      unlimited = S .unlimited;
-    }
-
--- the whole of 6
-pub fine-over : (a : Assoc) (g : List ℕ) (least : ℕ) → Fine a g least → brokenOver a g ≡ false
-unfolding brokenOver
-fine-over a g least F = rw (not-broken a (F .sound), F .length-good)
 
 -- ---- when receiving
 pub record Receives (a : Assoc) (g o : List ℕ) : Type 0 where
@@ -53,7 +29,7 @@ pub record Receives (a : Assoc) (g o : List ℕ) : Type 0 where
 
 receives-by : (a : Assoc) (g o : List ℕ) → Fine a g 16390 → 10 ≤ length o → Receives a g o
 receives-by a g o F h =
-    let w : a .gathered ≤ length g = omega (arith, F .sound .few, F .room) in
+    let w : a .gathered ≤ length g = omega (arith, F .whole .few, F .room) in
     record { fine-record = F; within = w; quiet = quiet-of (a .gathered) g w (F .length-good); out-room = h }
 
 pub receives-of : (a : Assoc) (g o : List ℕ) → receiveRefusal a g o ≡ 0 → Receives a g o
@@ -68,20 +44,20 @@ pub ready-of : (a : Assoc) (g o : List ℕ) → Fine a g 16390 → 16390 ≤ len
 ready-of a g o F ho =
     let v = receives-by a g o F (omega arith) in
     record {
-      sound = record { sound = sound-count a 0 (F .sound) (omega arith) (λ _. refl); nothing = refl };
+      sound = F .whole .sound;
       room = F .room;
       within = v .within;
       quiet = v .quiet;
-      dropped = λ d. F .sound .dropped (sym (drops-same a 0) ∙ d);
+      dropped = F .whole .dropped;
       output = ho;
     }
 
 -- a state of the engine, as a record with its count
-pub fine-lent : (x : eng.EngineState upper) → Ready upper upper-laws x → Fine (withCount (x .state) (x .count)) (x .gather) 16390
+pub fine-lent : (x : eng.EngineState upper) → Ready upper upper-laws x → Fine (withGathered (x .state) (x .count)) (x .gather) 16390
 fine-lent x r =
     let n : length (take (x .count) (x .gather)) ≡ x .count = length-take-le (x .count) (x .gather) (r .within) in
     record {
-      sound = sound-count (x .state) (x .count) (r .sound .sound) (omega (arith, n, no-event-fits 16384 (take (x .count) (x .gather)) (r .quiet))) (r .dropped);
+      whole = record { sound = r .sound; few = omega (arith, n, no-event-fits 16384 (take (x .count) (x .gather)) (r .quiet)); dropped = r .dropped };
       room = r .room;
       length-good = good-length (x .count) (x .gather) (r .within) (r .quiet);
     }
@@ -91,7 +67,7 @@ fine-ready a g o r = fine-lent (lentOf a g o) r
 
 -- at a local event the gather buffer need only hold what is gathered
 pub fine-given : (a : Assoc) (g : List ℕ) → Fine a g 16390 → Fine a g (a .gathered)
-fine-given a g F = record { sound = F .sound; room = omega (arith, F .sound .few, F .room); length-good = F .length-good }
+fine-given a g F = record { whole = F .whole; room = omega (arith, F .whole .few, F .room); length-good = F .length-good }
 
 -- refusals 6, 3 and 2 do not come
 pub receive-answered : (a : Assoc) (g o : List ℕ) → ReadyAt a g o → receiveRefusal a g o ≡ 0

@@ -12,24 +12,24 @@ use lib.Seq.{length-take-le, take-at, drop-at}
 use borrow.Author.Tests.{eqb-true, eqb-false}
 use Rattle.octets.specs.Put.{put, front}
 use Rattle.octets.proofs.PutLaws.{put-length}
-use Rattle.framing.specs.Framing.{Frame, frame, Frame.short, Frame.long, Frame.whole}
+use Rattle.framing.specs.Framing.{Frame, frame, Frame.short, Frame.long, Frame.whole, Brought.over-length}
 use Rattle.framing.specs.Engine as eng
 use Rattle.framing.proofs.Buffers.{front-length}
 use Rattle.framing.proofs.Receive.{through-fits}
+use Rattle.table.specs.EventNames.{INVALID-RECEIVED}
 use Rattle.association.specs.declared.Assoc.{Assoc}
-use Rattle.association.specs.Record.{dropping}
+use Rattle.association.specs.Record.{standing, dropping}
 use Rattle.association.specs.Refusals.{refusedWith}
-use Rattle.association.specs.Events.{Local, invalidPdu}
+use Rattle.association.specs.Events.{Local}
 use Rattle.writing.specs.Ten.{tenOf}
-use Rattle.association.specs.Performing.{Input}
 use Rattle.association.specs.Machine.{upper, doing, onEvent, onLocal}
-use Rattle.association.specs.Calls.{Call, call, withCount, lentOf, heard, receiveRefusal, receiveOf, localRefusal, localOf}
+use Rattle.association.specs.Calls.{Call, call, lentOf, heard, receiveRefusal, receiveOf, localRefusal, localOf}
 use Rattle.writing.proofs.TenLaws.{ten-length}
 use Rattle.demand_2.specs.Cells.{calls}
 use Rattle.demand_2.specs.Gather.{GatherOnlyTested}
 use Rattle.demand_2.proofs.Given.{sends-room}
 use Rattle.demand_2.proofs.Ready.{Receives, receives-of}
-use Rattle.demand_2.proofs.Answered.{receive-refused, received, local-refused, local-done, takes-of}
+use Rattle.demand_2.proofs.Answered.{receive-either, local-refused, doneLocal, local-done, local-either, takes-of}
 use Rattle.demand_2.proofs.Calls.{local-refusal}
 
 -- a call with c bytes gathered before it and u used left the gather buffer g and the output o as this
@@ -81,16 +81,16 @@ module _ (a : Assoc) (g p o : List ℕ) (v : Receives a g o) where
   untouched-by false short hu hc =
       gathered-by (length p) [] (heard (eng.receiveBy upper false short (lentOf a g o) p)) hu hc (omega arith) refl refl refl
   untouched-by false long hu hc =
-      gathered-by (6 - a .gathered) (onEvent invalidPdu (withCount a 0) Input.long .sends) (heard (eng.receiveBy upper false long (lentOf a g o) p)) hu hc (few _) refl refl refl
+      gathered-by (6 - a .gathered) (onEvent INVALID-RECEIVED (standing a) over-length .sends) (heard (eng.receiveBy upper false long (lentOf a g o) p)) hu hc (few _) refl refl refl
   untouched-by false (whole n) hu hc =
-      gathered-by (n - a .gathered) (upper .onPdu (withCount a 0) (take n (put g (a .gathered) (take (n - a .gathered) p))) .sends)
+      gathered-by (n - a .gathered) (upper .onPdu (standing a) (take n (put g (a .gathered) (take (n - a .gathered) p))) .sends)
       (heard (eng.receiveBy upper false (whole n) (lentOf a g o) p)) hu hc (few _) refl refl refl
 
   untouched-received : Untouched (a .gathered) (eng.receive upper (lentOf a g o) p .used) g o (heard (eng.receive upper (lentOf a g o) p))
   unfolding eng.receive
   untouched-received =
       let t = through-fits upper g p (a .gathered) (v .within) (v .quiet) in
-      untouched-by (dropping (withCount a 0)) (frame 16384 (take (a .gathered) g ++ p)) (t .0) (t .1)
+      untouched-by (dropping (standing a)) (frame 16384 (take (a .gathered) g ++ p)) (t .0) (t .1)
 
 untouched-refused : (n c : ℕ) (a : Assoc) (g o : List ℕ) → Untouched c 0 g o (call (refusedWith n a) g o)
 unfolding refusedWith
@@ -98,14 +98,9 @@ untouched-refused n c a g o = record { before = refl; behind = refl; gather-leng
 
 pub receive-untouched : (a : Assoc) (g p o : List ℕ) → Untouched (a .gathered) (receiveOf a g p o .answer .told .used) g o (receiveOf a g p o)
 unfolding heard refusedWith
-receive-untouched a g p o = by (eqb (receiveRefusal a g o) 0) refl
-  where
-    by : (b : Bool) → eqb (receiveRefusal a g o) 0 ≡ b → Untouched (a .gathered) (receiveOf a g p o .answer .told .used) g o (receiveOf a g p o)
-    by true e =
-        let h = eqb-true _ _ e in
-        rw (received a g p o h) (untouched-received a g p o (receives-of a g o h))
-    by false e =
-        rw (receive-refused a g p o (eqb-false _ _ e)) (untouched-refused (receiveRefusal a g o) (a .gathered) a g o)
+receive-untouched a g p o =
+    receive-either a g p o (λ (c : Call). Untouched (a .gathered) (c .answer .told .used) g o c) (λ h. untouched-received a g p o (receives-of a g o h))
+    (untouched-refused (receiveRefusal a g o) (a .gathered) a g o)
 
 -- ---- a local event: only its refusals look at the gather buffer
 pub gather-only-tested : GatherOnlyTested calls
@@ -128,18 +123,15 @@ pub local-gather : (a : Assoc) (g o : List ℕ) (e : Local) → localOf a g o e 
 local-gather a g o e = ap (λ (c : Call). c .gather) (gather-only-tested a g g o e refl)
 
 pub local-untouched : (a : Assoc) (g o : List ℕ) (e : Local) (c : ℕ) → Untouched c 0 g o (localOf a g o e)
-local-untouched a g o e c = by (eqb (localRefusal a g o e) 0) refl
+local-untouched a g o e c = local-either a g o e (Untouched c 0 g o) done (untouched-refused (localRefusal a g o e) c a g o)
   where
-    by : (b : Bool) → eqb (localRefusal a g o e) 0 ≡ b → Untouched c 0 g o (localOf a g o e)
-    by true q =
-        let h = eqb-true _ _ q in
-        let t = takes-of a g o e h in
-        rw (local-done a g o e h)
-        (record {
+    done : localRefusal a g o e ≡ 0 → Untouched c 0 g o (doneLocal a g o e)
+    done h =
+        let bs = onLocal (standing a) e .sends in
+        record {
           before = refl;
           behind = refl;
           gather-length = refl;
-          beyond = front-behind o (onLocal a e .sends);
-          out-length = front-length o (onLocal a e .sends) (sends-room a e (length o) (t .request-fine));
-        })
-    by false q = rw (local-refused a g o e (eqb-false _ _ q)) (untouched-refused (localRefusal a g o e) c a g o)
+          beyond = front-behind o bs;
+          out-length = front-length o bs (sends-room (standing a) e (length o) (takes-of a g o e h .request-fine));
+        }

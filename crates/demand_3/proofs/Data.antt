@@ -4,7 +4,7 @@ use Prim.Native.Nat.{ℕ, _≤_, _<_}
 use mathlib.Core.Path.{_≡_, refl, sym, ap, _∙_, subst}
 use mathlib.Core.Bool.{Bool, true, false, cond, _&&_, _||_, Bool·beq, and-false}
 use mathlib.Core.Option.{none, some}
-use mathlib.Core.List.{List, [], map}
+use mathlib.Core.List.{List, map}
 use native.Mathlib.Omega.{arith}
 use native.Mathlib.Decide.{decLt}
 use lib.Dec.{T, eqb}
@@ -15,24 +15,23 @@ use Rattle.laws.proofs.Below.{allBelow, below}
 use Rattle.framing.specs.Runs.{Ran}
 use Rattle.framing.specs.Framing.{Brought}
 use Rattle.framing.specs.Framing.{Brought.pdu, Brought.over-length}
-use Rattle.framing.specs.Host as host
-use Rattle.framing.specs.Host.{Entry, One, Item, Calls, HostedScript}
+use Rattle.framing.specs.Host.{Entry, One, Item, HostedScript}
 use Rattle.framing.specs.Reference as ref
 use Rattle.framing.specs.Reference.{Reaction}
 use Rattle.framing.specs.Taken as steps
 use Rattle.framing.specs.Taken.{those}
 use Rattle.framing.proofs.Steps.{exactly, shown-exactly}
 use Rattle.judging.specs.Pdu.{kindOf}
+use Rattle.table.specs.EventNames.{INVALID-RECEIVED}
 use Rattle.table.specs.Table.{table, cellOf, isReceived}
 use Rattle.table.specs.Actions.{actions, doesOf, showsOf}
 use Rattle.table.proofs.Right.{past-rows, past-columns}
-use Rattle.association.specs.declared.Assoc.{Assoc}
-use Rattle.association.specs.Record.{idle}
-use Rattle.association.specs.Events.{Local, eventOf, eventOfKind, invalidPdu, numberOf}
+use Rattle.association.specs.Record.{Standing}
+use Rattle.association.specs.Events.{Local, eventOf, eventOfKind, numberOf}
 use Rattle.association.specs.Machine.{Seen, upper, localCell, doing, onEvent, onLocal, requestRefusal}
-use Rattle.demand_2.proofs.Moves.{beq-eq}
-use Rattle.demand_2.proofs.Sound.{never}
-use Rattle.demand_3.specs.Calls.{Lent, fresh, machine, wanted, Demand3}
+use Rattle.demand_2.proofs.Unbroken.{never}
+use Rattle.demand_2.proofs.Moves.{beq-eq, each-kind}
+use Rattle.demand_3.specs.Calls.{Lent, fresh, machine, freshBox, wanted}
 use Rattle.demand_3.specs.Data.{indicates, indicated, takesData, dataAt, validData, dataIn}
 use Rattle.demand_3.proofs.Demand.{any-host}
 
@@ -59,29 +58,15 @@ right e s = by (decLt e 20) (decLt s 14)
     by (no l) d = rw (past-rows e s (omega arith), ne-eqb e 10 (λ z. omega arith))
 
 -- its event is that of a valid P-DATA-TF
-kinds : T (allBelow 8 (λ k. Bool·beq (eqb (eventOfKind k) 10) (eqb k 4)))
+abbrev kindRight : ℕ → ℕ → Bool
+kindRight k e = Bool·beq (eqb e 10) (eqb k 4)
+
+kinds : T (allBelow 8 (λ k. kindRight k (eventOfKind k)))
 unfolding eventOfKind
 kinds = tt
 
-past-kinds : (k : ℕ) → 8 ≤ k → eqb (eventOfKind k) 10 ≡ eqb k 4
-unfolding eventOfKind
-past-kinds k h =
-    rw (
-      ne-eqb k 1 (λ z. omega arith),
-      ne-eqb k 2 (λ z. omega arith),
-      ne-eqb k 3 (λ z. omega arith),
-      ne-eqb k 4 (λ z. omega arith),
-      ne-eqb k 5 (λ z. omega arith),
-      ne-eqb k 6 (λ z. omega arith),
-      ne-eqb k 7 (λ z. omega arith),
-    )
-
 is-data : (k : ℕ) → eqb (eventOfKind k) 10 ≡ eqb k 4
-is-data k = by (decLt k 8)
-  where
-    by : Dec (k < 8) → eqb (eventOfKind k) 10 ≡ eqb k 4
-    by (yes l) = beq-eq _ _ (below 8 (λ k. Bool·beq (eqb (eventOfKind k) 10) (eqb k 4)) kinds k l)
-    by (no l) = past-kinds k (omega arith)
+is-data k = beq-eq _ _ (each-kind kindRight kinds (λ k h. rw (ne-eqb k 4 (λ z. omega arith)) tt) k)
 
 -- ---- the premises of `exactly`
 
@@ -93,10 +78,10 @@ none-indicated : indicates 0 ≡ false
 unfolding indicates
 none-indicated = refl
 
-right-event : (a : Assoc) (v : Brought) → indicates (ref.react upper a v .told .action) ≡ dataAt a v
+right-event : (s : Standing) (v : Brought) → indicates (ref.react upper s v .told .action) ≡ dataAt s v
 unfolding onEvent doing eventOf
-right-event a (pdu p) = right (eventOfKind (kindOf p)) (a .state) ∙ ap (λ (b : Bool). b && takesData (a .state)) (is-data (kindOf p))
-right-event a over-length = right invalidPdu (a .state)
+right-event s (pdu p) = right (eventOfKind (kindOf p)) (s .state) ∙ ap (λ (b : Bool). b && takesData (s .state)) (is-data (kindOf p))
+right-event s over-length = right INVALID-RECEIVED (s .state)
 
 -- no local event indicates data: the row of P-DATA-TF is a received one
 quiet-local : (n s : ℕ) → indicates (localCell n s) ≡ false
@@ -114,12 +99,12 @@ quiet-local n s = by (isReceived n) refl
     by true q = none-indicated
     by false q = inner (eqb n 10) refl q
 
-never-by : (a : Assoc) (e : Local) (x : Reaction Assoc Seen) (b : Bool) → cond b (some (onLocal a e)) none ≡ some x → indicates (x .told .action) ≡ false
+never-by : (s : Standing) (e : Local) (x : Reaction Standing Seen) (b : Bool) → cond b (some (onLocal s e)) none ≡ some x → indicates (x .told .action) ≡ false
 unfolding onLocal doing
-never-by a e x true q =
-    let p : onLocal a e ≡ x = cc in
-    subst (λ (y : Reaction Assoc Seen). indicates (y .told .action) ≡ false) p (quiet-local (numberOf e) (a .state))
-never-by a e x false q = let z : _≡_ {A = ℕ} 0 1 = cc in absurd (omega arith)
+never-by s e x true q =
+    let p : onLocal s e ≡ x = cc in
+    subst (λ (y : Reaction Standing Seen). indicates (y .told .action) ≡ false) p (quiet-local (numberOf e) (s .state))
+never-by s e x false q = let z : _≡_ {A = ℕ} 0 1 = cc in absurd (omega arith)
 
 -- DT-2 and AR-6 show their PDU
 shows-at : (action : ℕ) (b : Bool) → indicates action ≡ true → showsOf action b ≡ true
@@ -131,10 +116,10 @@ shows-at action b h = by (eqb action 10) refl (eqb action 16) refl h
     by false p true q h = rw (eqb-true action 16 q)
     by false p false q h = never false refl h
 
-shows-event : (a : Assoc) (v : Brought) → dataAt a v ≡ true → ref.react upper a v .shows ≡ true
+shows-event : (s : Standing) (v : Brought) → dataAt s v ≡ true → ref.react upper s v .shows ≡ true
 unfolding onEvent doing
-shows-event a (pdu p) h = shows-at _ _ (right-event a (pdu p) ∙ h)
-shows-event a over-length h = shows-at _ _ (right-event a over-length ∙ h)
+shows-event s (pdu p) h = shows-at _ _ (right-event s (pdu p) ∙ h)
+shows-event s over-length h = shows-at _ _ (right-event s over-length ∙ h)
 
 -- ---- the whole run
 
@@ -145,17 +130,12 @@ module _ (is : List (Item One Local)) where
   -- in the reference
   wanted-entries : those indicated (wanted is .trace) ≡ map (steps.entryAt upper) (dataIn is)
   wanted-entries =
-      exactly upper indicated validData (λ t. right-event (t .met) (t .came)) (λ a e x q. never-by a e x (eqb (requestRefusal a e 16390) 0) q) is (ref.box upper idle [])
+      exactly upper indicated validData (λ t. right-event (t .met) (t .came)) (λ s e x q. never-by s e x (eqb (requestRefusal s e 16390) 0) q) is freshBox
 
   wanted-data : shownAt (wanted is .trace) ≡ map (steps.pduAt upper) (dataIn is)
   wanted-data =
-      shown-exactly upper indicated validData (λ t. right-event (t .met) (t .came)) (λ a e x q. never-by a e x (eqb (requestRefusal a e 16390) 0) q)
-      (λ t h. shows-event (t .met) (t .came) h) is (ref.box upper idle [])
-
-  -- so of any engine that meets demand 3
-  pub data-demanded : (D : Calls One Local (Entry Seen)) (start : D .S) (stands : D .S → ref.Box upper) → Demand3 D start stands
-      → shownAt (host.script D is start .trace) ≡ map (steps.pduAt upper) (dataIn is)
-  data-demanded D start stands d = ap (λ (x : Ran (Entry Seen) (ref.Box upper)). shownAt (x .trace)) (d is) ∙ wanted-data
+      shown-exactly upper indicated validData (λ t. right-event (t .met) (t .came)) (λ s e x q. never-by s e x (eqb (requestRefusal s e 16390) 0) q)
+      (λ t h. shows-event (t .met) (t .came) h) is freshBox
 
   -- and of the machine, whatever host gives the script
   module _ (g o : List ℕ) (hg : 16390 ≤ length g) (ho : 16390 ≤ length o) {y : Ran (Entry Seen) Lent} (w : HostedScript machine (fresh g o) is y) where

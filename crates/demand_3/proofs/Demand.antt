@@ -3,36 +3,29 @@
 -- Assumes nothing.
 use Prim.Native.Nat.{ℕ, _≤_}
 use mathlib.Core.Path.{_≡_, refl, sym, ap, _∙_}
-use mathlib.Core.Bool.{false}
-use mathlib.Core.List.{List, [], map}
+use mathlib.Core.List.{List, map}
 use lib.ListN.{length, take}
 use lib.Seq.{length-take-le}
 use Rattle.framing.specs.Runs.{Ran}
 use Rattle.framing.specs.Host as host
 use Rattle.framing.specs.Host.{Entry, One, Item, HostedScript}
 use Rattle.framing.specs.Reference as ref
-use Rattle.framing.specs.Engine as eng
 use Rattle.framing.proofs.Call.{Done}
 use Rattle.framing.proofs.Instances.{second-cuts, second-hosts}
-use Rattle.association.specs.Record.{idle, badLength, brokenOver}
+use Rattle.association.specs.Record.{standing, withGathered, idle}
 use Rattle.association.specs.Events.{Local}
 use Rattle.association.specs.Machine.{Seen, upper}
-use Rattle.association.specs.Calls.{withCount}
-use Rattle.demand_2.proofs.Kept.{rests-idle, upper-laws}
-use Rattle.demand_2.proofs.Unbroken.{Fine}
-use Rattle.demand_2.proofs.Ready.{ready-of, fine-ready, fine-over}
-use Rattle.demand_3.specs.Calls.{Lent, fresh, machine, boxOf, boxed, wanted, Demand3}
+use Rattle.demand_2.proofs.Unbroken.{fine-idle}
+use Rattle.demand_2.proofs.Kept.{upper-laws}
+use Rattle.demand_2.proofs.Ready.{ready-of}
+use Rattle.demand_3.specs.Calls.{Lent, fresh, machine, boxOf, freshBox, boxed, wanted, Demand3}
 use Rattle.demand_3.proofs.Same.{engine, At, same-calls}
 
 -- a fresh association, with two buffers of 16,390 bytes or more
-fine-idle : (g : List ℕ) → 16390 ≤ length g → Fine idle g 16390
-unfolding idle badLength
-fine-idle g hg = record { sound = rests-idle .sound; room = hg; length-good = refl }
-
 pub at-fresh : (g o : List ℕ) → 16390 ≤ length g → 16390 ≤ length o → At (fresh g o)
-at-fresh g o hg ho = ready-of idle g o (fine-idle g hg) ho
+at-fresh g o hg ho = ready-of idle g o (fine-idle g 16390 hg) ho
 
-start : (g o : List ℕ) → eng.engineBox upper (engine (fresh g o)) ≡ ref.box upper idle []
+pub start : (g o : List ℕ) → boxOf (fresh g o) ≡ freshBox
 unfolding idle
 start g o = refl
 
@@ -60,16 +53,12 @@ module _ (is : List (Item One Local)) (g o : List ℕ) (hg : 16390 ≤ length g)
   pub reached : At (y .end)
   reached = hosted .ready
 
-  -- the record that it leads to is not broken over the gather buffer
-  pub never-broken : brokenOver (y .end .assoc) (y .end .gather) ≡ false
-  never-broken = fine-over _ _ 16390 (fine-ready _ _ (y .end .out) reached)
-
-  -- and is the reference's, with the count of the bytes gathered
-  pub end-record : y .end .assoc ≡ withCount (wanted is .end .state) (length (wanted is .end .got))
+  -- the record that it leads to is the reference's, with the count of the bytes gathered
+  pub end-record : y .end .assoc ≡ withGathered (wanted is .end .state) (length (wanted is .end .got))
   end-record =
       let e : boxOf (y .end) ≡ wanted is .end = ap (λ (x : Ran (Entry Seen) (ref.Box upper)). x .end) any-host in
       let n : length (take (y .end .assoc .gathered) (y .end .gather)) ≡ y .end .assoc .gathered = length-take-le (y .end .assoc .gathered) (y .end .gather) (reached .within) in
-      ap (λ (k : ℕ). withCount (y .end .assoc) k) (sym n) ∙ ap (λ (b : ref.Box upper). withCount (b .state) (length (b .got))) e
+      ap (withGathered (standing (y .end .assoc))) (sym n) ∙ ap (λ (b : ref.Box upper). withGathered (b .state) (length (b .got))) e
 
   -- whatever is read from what is seen, by any reading call, is the same on both
   pub readers-alike : {X : Type 0} (read : Entry Seen → X) → map read (y .trace) ≡ map read (wanted is .trace)

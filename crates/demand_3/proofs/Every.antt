@@ -15,13 +15,14 @@ use Rattle.framing.specs.Engine as eng
 use Rattle.framing.proofs.Ready.{Ready}
 use Rattle.framing.proofs.Call.{called, told}
 use Rattle.framing.proofs.Hosts.{Advances, feed-step, cut-script}
-use Rattle.association.specs.Record.{brokenOver}
+use Rattle.association.specs.Record.{standing, brokenOver}
 use Rattle.association.specs.Events.{Local}
 use Rattle.association.specs.Machine.{upper, requestRefusal}
-use Rattle.association.specs.Calls.{withCount, receiveOf, localOf}
+use Rattle.association.specs.Calls.{receiveOf, localOf}
+use Rattle.demand_2.proofs.Unbroken.{fine-over}
 use Rattle.demand_2.proofs.Given.{request-known}
 use Rattle.demand_2.proofs.Kept.{upper-laws}
-use Rattle.demand_2.proofs.Ready.{fine-ready, fine-over, receive-answered}
+use Rattle.demand_2.proofs.Ready.{fine-ready, receive-answered}
 use Rattle.demand_2.proofs.Calls.{receive-refusal, local-refusal, local-used}
 use Rattle.demand_3.specs.Calls.{Lent, leaves, fresh, Made, looking, every}
 use Rattle.demand_3.specs.Calls.{Given.piece, Given.local}
@@ -72,11 +73,11 @@ module _ (s : Lent) (r : At s) where
   pub held-given : (e : Local) → Held (takes e)
   held-given e =
       let a = s .assoc in
-      let q : takes e .call .answer .told .refusal ≡ requestRefusal (withCount a 0) e 16390 = local-refusal a (s .gather) (s .out) e ∙ refused-same s r e in
+      let q : takes e .call .answer .told .refusal ≡ requestRefusal (standing a) e 16390 = local-refusal a (s .gather) (s .out) e ∙ refused-same s r e in
       record {
         lent-whole = lent-fine;
         left-whole = fine-over _ _ 16390 (fine-ready _ _ (takes e .call .out) (at-given e));
-        refusal = rw q (request-known (withCount a 0) e);
+        refusal = rw q (request-known (standing a) e);
         at-least = λ h. absurd (omega arith);
         at-most = rw (local-used a (s .gather) (s .out) e) (omega arith);
       }
@@ -122,10 +123,5 @@ module _ (is : List (Item One Local)) (g o : List ℕ) (hg : 16390 ≤ length g)
   pub a-host : {T : Type 0} (look : Made → List T) → HostedScript (looking look) (fresh g o) is (host.script (looking look) is (fresh g o))
   a-host look = cut-script (looking look) At (advances look) is (fresh g o) (at-fresh g o hg ho)
 
-  -- by any host
   pub every-call : {x : Ran Made Lent} → HostedScript every (fresh g o) is x → Each Held (x .trace)
   every-call w = each-script Held (λ s p r. held-received s r p) (λ s e r. held-given s r e) (at-fresh g o hg ho) w
-
-  -- by the host that cuts
-  pub every-cut-call : Each Held (host.script every is (fresh g o) .trace)
-  every-cut-call = every-call (a-host (λ m. m ∷ []))

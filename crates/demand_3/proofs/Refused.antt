@@ -13,16 +13,15 @@ use Rattle.framing.proofs.Call.{Done}
 use Rattle.framing.proofs.Hosts.{cut-run}
 use Rattle.framing.proofs.Sim.{everything, Same, in-step}
 use Rattle.framing.proofs.Instances.{second-cuts}
-use Rattle.association.specs.Record.{idle}
 use Rattle.association.specs.Events.{Local}
 use Rattle.association.specs.Machine.{Seen, upper}
 use Rattle.demand_2.proofs.Kept.{upper-laws}
 use Rattle.demand_2.proofs.Calls.{local-refusal}
-use Rattle.demand_3.specs.Calls.{Lent, fresh, Made, machine, every, refusals, seenOf, refusalSeen, boxOf}
+use Rattle.demand_3.specs.Calls.{Lent, fresh, Made, machine, every, refusals, seenOf, refusalSeen, boxOf, freshBox}
 use Rattle.demand_3.specs.Every.{Each, looked}
 use Rattle.demand_3.specs.Refused.{refusedBy, refusedAt, refusedIn}
 use Rattle.demand_3.proofs.Same.{engine, At, same-calls, refused-same}
-use Rattle.demand_3.proofs.Demand.{at-fresh}
+use Rattle.demand_3.proofs.Demand.{at-fresh, start}
 use Rattle.demand_3.proofs.Every.{advances, each-run, never-refused}
 use Rattle.demand_3.proofs.Looked.{looked-item}
 
@@ -75,12 +74,8 @@ each : (i : Item One Local) (s : Lent) (b : ref.Box upper) (rest : List ℕ) →
 each i s b rest h = rw (← h .0) (record { trace = item-trace i s (h .1); end = end-rel i s rest (h .1) })
 
 -- ---- the whole script
-start : (g o : List ℕ) → boxOf (fresh g o) ≡ ref.box upper idle []
-unfolding idle
-start g o = refl
-
 pub refusals-exactly : (is : List (Item One Local)) (g o : List ℕ) → 16390 ≤ length g → 16390 ≤ length o
-    → host.script refusals is (fresh g o) .trace ≡ refusedIn is (ref.box upper idle [])
+    → host.script refusals is (fresh g o) .trace ≡ refusedIn is freshBox
 refusals-exactly is g o hg ho =
-    in-step everything Rel (host.item refusals) pace each is (fresh g o) (ref.box upper idle []) [] (start g o, at-fresh g o hg ho) .trace
-    ∙ paces is (ref.box upper idle [])
+    in-step everything Rel (host.item refusals) pace each is (fresh g o) freshBox [] (start g o, at-fresh g o hg ho) .trace
+    ∙ paces is freshBox

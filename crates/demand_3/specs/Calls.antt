@@ -6,15 +6,16 @@ use mathlib.Core.Bool.{cond}
 use mathlib.Core.List.{List, [], _∷_}
 use lib.ListN.{length, take}
 use lib.Dec.{eqb}
+use Rattle.numbers.specs.Refusals.{NOT-REFUSED}
 use Rattle.framing.specs.Runs.{Ran}
 use Rattle.framing.specs.Host as host
 use Rattle.framing.specs.Host.{Entry, One, Item, Calls}
 use Rattle.framing.specs.Reference as ref
 use Rattle.association.specs.declared.Assoc.{Assoc}
-use Rattle.association.specs.Record.{idle}
+use Rattle.association.specs.Record.{standing, idle}
 use Rattle.association.specs.Events.{Local}
 use Rattle.association.specs.Machine.{Seen, upper}
-use Rattle.association.specs.Calls.{Call, withCount}
+use Rattle.association.specs.Calls.{Call}
 use Rattle.demand_2.specs.Cells.{calls}
 
 -- what is lent to each call, and untouched in between: the record, the gather buffer, the output
@@ -84,20 +85,24 @@ every = looking (λ m. m ∷ [])
 
 -- the refusals alone, each by its number
 unfoldable pub refusalSeen : Call → List ℕ
-refusalSeen c = cond (eqb (c .answer .told .refusal) 0) [] (c .answer .told .refusal ∷ [])
+refusalSeen c = cond (eqb (c .answer .told .refusal) NOT-REFUSED) [] (c .answer .told .refusal ∷ [])
 
 abbrev pub refusals : Calls One Local ℕ
 refusals = looking (λ m. refusalSeen (m .call))
 
 -- ---- the end
 
--- the record, its count apart, and the bytes gathered
+-- where the association stands, and the bytes gathered
 abbrev pub boxOf : Lent → ref.Box upper
-boxOf s = ref.box upper (withCount (s .assoc) 0) (take (s .assoc .gathered) (s .gather))
+boxOf s = ref.box upper (standing (s .assoc)) (take (s .assoc .gathered) (s .gather))
+
+-- a fresh association's
+abbrev pub freshBox : ref.Box upper
+freshBox = ref.box upper (standing idle) []
 
 -- what a script is to give: each run framed at once behind the bytes already gathered, its events played by Table 9-10, refused events left out
 abbrev pub wanted : List (Item One Local) → Ran (Entry Seen) (ref.Box upper)
-wanted is = ref.reference upper is (ref.box upper idle [])
+wanted is = ref.reference upper is freshBox
 
 -- ---- the demand
 

@@ -83,10 +83,3 @@ module _ {C E T : Type 0} (D : Calls C E T) (Inv : D .S → Type 0) (adv : Advan
   cut-script [] s i = host.nothing
   cut-script (event c e ∷ is) s i = host.gives c e (cut-script is (onEvent s c e .end) (adv .does s c e i))
   cut-script (run c ps ∷ is) s i = host.feeds c ps (cut-run c ps s i) (cut-script is (runs (feed D c) ps s .end) (kept-run c ps s i))
-
-  -- and the invariant holds wherever it leads
-  pub kept-script : (is : List (Item C E)) (s : S) → Inv s → Inv (host.script D is s .end)
-  unfolding runs
-  kept-script [] s i = i
-  kept-script (event c e ∷ is) s i = kept-script is (onEvent s c e .end) (adv .does s c e i)
-  kept-script (run c ps ∷ is) s i = kept-script is (runs (feed D c) ps s .end) (kept-run c ps s i)

@@ -15,8 +15,6 @@ pub mod Second
 pub mod Log
 pub mod Slots
 pub mod Line
-pub mod Stream
-pub mod EndToEnd
 pub mod Instances
 pub mod ShutOut
 pub mod Toy

@@ -1,19 +1,18 @@
--- At every moment each end did what its engine does with the items given to it, and the bytes that it got, with those on the way, are those that the other sent.
+-- At every moment each end did what its engine does with the items given to it.
 -- Assumes nothing.
 use Prim.Native.Nat.{ℕ}
-use mathlib.Core.Path.{_≡_, refl, sym, ap, _∙_}
-use mathlib.Core.Bool.{Bool, true, false, cond, not}
-use mathlib.Core.List.{List, [], _∷_, _++_, map, append-assoc, append-nil}
+use mathlib.Core.Path.{_≡_, refl}
+use mathlib.Core.Bool.{true}
+use mathlib.Core.List.{List, [], _++_}
 use native.Mathlib.Omega.{arith}
-use lib.ListN.{take, take-append-drop}
-use Rattle.framing.specs.Runs.{Ran, runs, givens}
+use Rattle.framing.specs.Runs.{Ran, runs}
 use Rattle.framing.specs.Host as host
-use Rattle.framing.specs.Host.{Calls, One, Item, Item.event, Item.run}
-use Rattle.framing.specs.Slots.{At, at, ownOf}
+use Rattle.framing.specs.Host.{Calls, One}
+use Rattle.framing.specs.Slots.{At, ownOf}
 use Rattle.framing.specs.Line as line
-use Rattle.framing.specs.Line.{Side, Side.left, Side.right, other, sameSide, gotIn, Line, Move}
+use Rattle.framing.specs.Line.{Side, Side.left, Side.right, sameSide, Line, Move}
 use Rattle.framing.proofs.Sim.{View, Same, simulates}
-use Rattle.framing.proofs.Slots.{seenAt, from, held, own-append, own-same, own-other}
+use Rattle.framing.proofs.Slots.{seenAt, from, held}
 
 side-self : (k : Side) → sameSide k k ≡ true
 side-self left = refl
@@ -24,17 +23,6 @@ side-is left left e = refl
 side-is left right e = let z : _≡_ {A = ℕ} 0 1 = cc in absurd (omega arith)
 side-is right left e = let z : _≡_ {A = ℕ} 0 1 = cc in absurd (omega arith)
 side-is right right e = refl
-
-away : (k d : Side) → sameSide k (other d) ≡ not (sameSide k d)
-away left left = refl
-away left right = refl
-away right left = refl
-away right right = refl
-
-got-append : {E : Type 0} (is js : List (Item One E)) → gotIn (is ++ js) ≡ gotIn is ++ gotIn js
-got-append [] js = refl
-got-append (event c e ∷ is) js = got-append is js
-got-append (run c ps ∷ is) js = rw (got-append is js, append-assoc)
 
 module _ {E T : Type 0} (D : Calls One E T) (bytes : T → List ℕ) where
   -- ---- each end by itself
@@ -65,57 +53,3 @@ module _ {E T : Type 0} (D : Calls One E T) (bytes : T → List ℕ) where
   each-end k ms w =
       let h = simulates (look k) (Stands k) (line.move D bytes) (host.item D) (line.giving D bytes k) (each k) ms w (w .ends k) [] refl in
       λ d. record { trace = h .trace d; end = h .end d }
-
-  -- ---- the line only delays
-
-  sent-append : (l m : List T) → line.sentIn D bytes (l ++ m) ≡ line.sentIn D bytes l ++ line.sentIn D bytes m
-  sent-append [] m = refl
-  sent-append (x ∷ l) m = rw (sent-append l m, append-assoc)
-
-  -- what an end gets in its own move, with what is then on the way to it, is what was on the way
-  got-move : (m : Move D bytes) (w : Line D bytes) → gotIn (line.itemOf D bytes m w ∷ []) ++ line.leftOf D bytes m w ≡ w .way (line.sideOf D bytes m)
-  got-move (line.does k e) w = refl
-  got-move (line.arrive k n) w = rw (append-nil (take n (w .way k) ++ []), append-nil (take n (w .way k)), take-append-drop n (w .way k))
-
-  -- one move, looked at from end k: at that end, or at the other
-  one-move : (k : Side) (m : Move D bytes) (w : Line D bytes)
-      → gotIn (line.giving D bytes k m w) ++ line.move D bytes m w .end .way k
-      ≡ w .way k ++ line.sentIn D bytes (ownOf sameSide (other k) (line.move D bytes m w .trace))
-  one-move k m w = by (sameSide (line.sideOf D bytes m) k) refl
-    where
-      l : List T
-      l = host.item D (line.itemOf D bytes m w) (w .ends (line.sideOf D bytes m)) .trace
-
-      by : (b : Bool) → sameSide (line.sideOf D bytes m) k ≡ b
-          → gotIn (cond b (line.itemOf D bytes m w ∷ []) []) ++ cond b (line.leftOf D bytes m w) (w .way k ++ line.sentIn D bytes l)
-          ≡ w .way k ++ line.sentIn D bytes (ownOf sameSide (other k) (map (at (line.sideOf D bytes m)) l))
-      by true e =
-          let q : sameSide (line.sideOf D bytes m) (other k) ≡ false = away (line.sideOf D bytes m) k ∙ rw e in
-          rw (own-other sameSide side-self side-is (other k) (line.sideOf D bytes m) l q, append-nil (w .way k))
-          (got-move m w ∙ ap (w .way) (side-is (line.sideOf D bytes m) k e))
-      by false e =
-          let q : sameSide (line.sideOf D bytes m) (other k) ≡ true = away (line.sideOf D bytes m) k ∙ rw e in
-          rw (own-same sameSide side-self side-is (other k) (line.sideOf D bytes m) l q)
-
-  -- THE LINE ONLY DELAYS: what end k got, with what is on the way to it, is what was on the way at the start, with what the other end sent
-  pub delays : (k : Side) (ms : List (Move D bytes)) (w : Line D bytes)
-      → gotIn (line.givenAt D bytes k ms w) ++ line.talk D bytes ms w .end .way k
-      ≡ w .way k ++ line.sentIn D bytes (ownOf sameSide (other k) (line.talk D bytes ms w .trace))
-  unfolding runs givens
-  delays k [] w = sym (append-nil (w .way k))
-  delays k (m ∷ ms) w =
-      let y = line.move D bytes m w in
-      let x = line.talk D bytes ms (y .end) in
-      let g : List ℕ = gotIn (line.giving D bytes k m w) in
-      let s : List ℕ = line.sentIn D bytes (ownOf sameSide (other k) (y .trace)) in
-      let s′ : List ℕ = line.sentIn D bytes (ownOf sameSide (other k) (x .trace)) in
-      let split : line.sentIn D bytes (ownOf sameSide (other k) (y .trace ++ x .trace)) ≡ s ++ s′ =
-      ap (line.sentIn D bytes) (own-append sameSide side-self side-is (other k) (y .trace) (x .trace))
-      ∙ sent-append (ownOf sameSide (other k) (y .trace)) (ownOf sameSide (other k) (x .trace)) in
-      ap (λ (l : List ℕ). l ++ x .end .way k) (got-append (line.giving D bytes k m w) (line.givenAt D bytes k ms (y .end)))
-      ∙ append-assoc g (gotIn (line.givenAt D bytes k ms (y .end))) (x .end .way k)
-      ∙ ap (λ (l : List ℕ). g ++ l) (delays k ms (y .end))
-      ∙ sym (append-assoc g (y .end .way k) s′)
-      ∙ ap (λ (l : List ℕ). l ++ s′) (one-move k m w)
-      ∙ append-assoc (w .way k) s s′
-      ∙ ap (λ (l : List ℕ). w .way k ++ l) (sym split)

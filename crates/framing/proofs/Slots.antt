@@ -1,14 +1,13 @@
--- Each slot does what its own engine does with the items given to it, and items on two slots can be given in either order.
+-- Each slot does what its own engine does with the items given to it.
 -- Assumes nothing.
 use Prim.Native.Nat.{ℕ}
 use mathlib.Core.Path.{_≡_, refl, sym, ap, _∙_}
 use mathlib.Core.Bool.{Bool, true, false, cond}
 use mathlib.Core.List.{List, [], _∷_, _++_, map, append-assoc, map-append}
-use native.Mathlib.Omega.{arith}
 use Rattle.framing.specs.Runs.{Ran, runs, givens}
 use Rattle.framing.specs.Host as host
 use Rattle.framing.specs.Host.{Calls, One, One.one, Item, Item.event, Item.run, feed}
-use Rattle.framing.specs.Slots.{At, at, slotOf, onOne, ownOf, givingTo, givenTo, changed, slots, atSlot}
+use Rattle.framing.specs.Slots.{At, at, ownOf, givingTo, givenTo, changed, slots, atSlot}
 use Rattle.framing.proofs.Runs.{runs-one}
 use Rattle.framing.proofs.Sim.{View, Same, Alike, simulates, run-fed}
 
@@ -95,21 +94,3 @@ module _ {C : Type 0} (same : C → C → Bool) (same-self : (c : C) → same c 
         let h = simulates (seenAt k) (Stands k) (host.item (slots same D)) (host.item D) (λ i g. givingTo same k i) (each k) is f (f k) [] refl in
         let q = givens-to k is f in
         (λ d. record { trace = h .trace d; end = h .end d }) ∙ ap (λ (js : List (Item One E)). host.script D js (f k)) q
-
-    -- EITHER ORDER: what is seen on each slot, and where it stands, does not show in which order two items on different slots were given
-    swapped : (k : C) (i j : Item C E) → same (slotOf i) (slotOf j) ≡ false → givenTo same k (i ∷ j ∷ []) ≡ givenTo same k (j ∷ i ∷ [])
-    swapped k i j e = by (same (slotOf i) k) refl (same (slotOf j) k) refl
-      where
-        by : (a : Bool) → same (slotOf i) k ≡ a → (b : Bool) → same (slotOf j) k ≡ b
-            → cond a (onOne i ∷ []) [] ++ (cond b (onOne j ∷ []) [] ++ []) ≡ cond b (onOne j ∷ []) [] ++ (cond a (onOne i ∷ []) [] ++ [])
-        by true p true q =
-            let w : same (slotOf i) (slotOf j) ≡ true = rw (same-is (slotOf i) k p, same-is (slotOf j) k q) (same-self k) in
-            let z : _≡_ {A = ℕ} 0 1 = cc in absurd (omega arith)
-        by true p false q = refl
-        by false p true q = refl
-        by false p false q = refl
-
-    pub either-order : (k : C) (i j : Item C E) (f : C → D .S) → same (slotOf i) (slotOf j) ≡ false
-        → atSlot same D k (host.script (slots same D) (i ∷ j ∷ []) f) ≡ atSlot same D k (host.script (slots same D) (j ∷ i ∷ []) f)
-    either-order k i j f e =
-        alone k (i ∷ j ∷ []) f ∙ ap (λ (is : List (Item One E)). host.script D is (f k)) (swapped k i j e) ∙ sym (alone k (j ∷ i ∷ []) f)

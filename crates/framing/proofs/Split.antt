@@ -1,12 +1,11 @@
--- Framing without fuel; framing as the bytes come; a stream of whole PDUs.
+-- Framing without fuel; framing as the bytes come.
 -- Assumes nothing.
 use Prim.Native.Nat.{ℕ, zero, suc, _≤_, _<_}
 use mathlib.Core.Path.{_≡_, refl, sym, ap, _∙_}
-use mathlib.Core.List.{List, [], _∷_, _++_, map}
+use mathlib.Core.List.{List, [], _∷_, _++_}
 use native.Mathlib.Omega.{arith}
 use lib.ListN.{length, take, drop, length-drop}
-use lib.Seq.{take-append-le, drop-append-le, take-length, drop-length}
-use Rattle.laws.specs.Lists.{joined}
+use lib.Seq.{take-append-le, drop-append-le}
 use Rattle.framing.specs.Framing as once
 use Rattle.framing.specs.Framing.{Frame, frame, Framed, noEvent, leading, splitBy, split, Frame.short, Frame.long, Frame.whole}
 use Rattle.framing.proofs.Rounds.{without-fuel}
@@ -57,17 +56,3 @@ module _ (limit : ℕ) where
   -- the events of a beginning are the first events of the whole
   pub split-append : (s t : List ℕ) → split limit (s ++ t) ≡ onward (split limit s) t
   split-append s t = append-to (length s) s t (omega arith)
-
-  -- ---- a stream of whole PDUs is framed into them
-
-  pub data Wholes : List (List ℕ) → Type 0 where
-    none : Wholes []
-    more : {p : List ℕ} {ps : List (List ℕ)} → frame limit p ≡ whole (length p) → Wholes ps → Wholes (p ∷ ps)
-
-  pub split-wholes : {ps : List (List ℕ)} → Wholes ps → split limit (joined ps) ≡ record { events = map once.pdu ps; rest = [] }
-  split-wholes none = split-nil
-  split-wholes (more {p} {ps} e w) =
-      let single : split limit p ≡ record { events = once.pdu p ∷ []; rest = [] } = split-step p ∙ rw (e, take-length, drop-length, split-nil) in
-      split-append p (joined ps)
-      ∙ ap (λ (x : Framed). onward x (joined ps)) single
-      ∙ ap (leading (once.pdu p)) (split-wholes w)

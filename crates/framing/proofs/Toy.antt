@@ -1,13 +1,10 @@
--- The toy machine keeps the laws, so that the main theorem holds of it; and the engines of ShutOut differ from its reference.
+-- The engines of ShutOut differ from the reference of the toy machine.
 -- Assumes nothing.
-use Prim.Native.Nat.{ℕ, _+_, _≤_}
-use mathlib.Core.Path.{_≡_, sym, ap, _∙_, subst}
-use mathlib.Core.Bool.{Bool, true, false, cond}
-use mathlib.Core.Option.{none, some}
+use Prim.Native.Nat.{ℕ, _≤_}
+use mathlib.Core.Path.{_≡_, sym, ap, _∙_}
 use mathlib.Core.List.{List, [], _∷_}
 use native.Mathlib.Omega.{arith}
 use lib.ListN.{length, replicate}
-use lib.Dec.{ltb}
 use Rattle.octets.specs.Octets.{be16, be32}
 use Rattle.octets.specs.Put.{put, front}
 use Rattle.framing.specs.Runs.{Ran, runs}
@@ -16,43 +13,13 @@ use Rattle.framing.specs.Framing.{lengthField, frame, split}
 use Rattle.framing.specs.Host as host
 use Rattle.framing.specs.Host.{Calls, Entry, Item, One, one, run}
 use Rattle.framing.specs.Reference as ref
-use Rattle.framing.specs.Reference.{Reaction}
 use Rattle.framing.specs.Engine as eng
 use Rattle.framing.specs.ShutOut as out
 use Rattle.framing.specs.ShutOut.{SeesOnePdu, SeesOnePiece}
 use Rattle.framing.specs.Toy.{toy}
-use Rattle.framing.proofs.Ready.{Kept, Laws}
-use Rattle.framing.proofs.Cuts.{from-fresh}
 use Rattle.framing.proofs.ShutOut.{one-pdu-more, one-piece-more, reported-behind}
 
--- ---- the laws
-
--- every record is sound
-abbrev Any : ℕ → Type 0
-Any r = 0 ≤ r
-
-moved : (most v : ℕ) (b : Bool) (x : Reaction ℕ ℕ) → cond b (some (record { next = v; told = v; sends = []; shows = false })) none ≡ some x
-    → Kept (toy most) Any x
-moved most v true x e =
-    let q : record { next = v; told = v; sends = []; shows = false } ≡ x = cc in
-    subst (Kept (toy most) Any) q (record { sound = omega arith; room = omega arith })
-moved most v false x e = let z : _≡_ {A = ℕ} 0 1 = cc in absurd (omega arith)
-
-abbrev toy-laws : (most : ℕ) → Laws (toy most)
-toy-laws most =
-    record {
-      Sound = Any;
-      pdu = λ r p s e. record { sound = omega arith; room = omega arith };
-      long = λ r s e. record { sound = omega arith; room = omega arith };
-      local = λ r v x s e. moved most v (ltb v 2) x e;
-    }
-
-pub toy-cuts : (most : ℕ) (is : List (Item One ℕ)) (r : ℕ) (g o : List ℕ) → 6 + most ≤ length g → 6 + most ≤ length o
-    → eng.engineBoxed (toy most) (host.script (eng.engineCalls (toy most)) is (eng.engineFresh (toy most) r g o)) ≡ ref.reference (toy most) is (ref.box (toy most) r [])
-toy-cuts most is r g o hg ho = from-fresh (toy most) (toy-laws most) is r g o (omega arith) hg ho
-
--- ---- the engines of ShutOut, in an open association
-
+-- in an open association
 abbrev reference : List (Item One ℕ) → Ran (Entry ℕ) (ref.Box (toy 4))
 reference is = ref.reference (toy 4) is (ref.box (toy 4) 1 [])
 

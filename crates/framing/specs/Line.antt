@@ -3,7 +3,6 @@ use Prim.Native.Nat.{ℕ}
 use mathlib.Core.Bool.{Bool, true, false, cond}
 use mathlib.Core.List.{List, [], _∷_, _++_, map}
 use lib.ListN.{take, drop}
-use Rattle.laws.specs.Lists.{joined}
 use Rattle.framing.specs.Runs.{Ran, runs, givens}
 use Rattle.framing.specs.Host.{Calls, One, One.one, Item, Item.event, Item.run, item}
 use Rattle.framing.specs.Slots.{At, at}
@@ -12,21 +11,11 @@ pub data Side : Type 0 where
   left : Side
   right : Side
 
-abbrev pub other : Side → Side
-other left = right
-other right = left
-
 abbrev pub sameSide : Side → Side → Bool
 sameSide left left = true
 sameSide left right = false
 sameSide right left = false
 sameSide right right = true
-
--- the bytes received in a script
-abbrev pub gotIn : {E : Type 0} → List (Item One E) → List ℕ
-gotIn [] = []
-gotIn (event c e ∷ is) = gotIn is
-gotIn (run c ps ∷ is) = joined ps ++ gotIn is
 
 -- `bytes` are those that an entry of the trace says were sent
 module _ {E T : Type 0} (D : Calls One E T) (bytes : T → List ℕ) where

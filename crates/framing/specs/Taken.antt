@@ -1,4 +1,4 @@
--- Steps: which events of the bytes a machine takes in a script, each with the record that it met. For 'data is indicated exactly', and for two ends of a line.
+-- Steps: which events of the bytes a machine takes in a script, each with the record that it met. For 'data is indicated exactly'.
 use Prim.Native.Nat.{ℕ}
 use mathlib.Core.Bool.{Bool, cond}
 use mathlib.Core.List.{List, [], _∷_, _++_}
@@ -34,11 +34,6 @@ module _ (M : Machine) where
   -- those taken in a script
   abbrev pub taken : List (Item One E) → ref.Box M → List Took
   taken is b = givens (ref.refItem M) tookOf is b
-
-  -- those taken within one association: up to where bytes are first dropped
-  abbrev pub within : List (Item One E) → ref.Box M → List Took
-  within [] b = []
-  within (i ∷ is) b = cond (drops (b .state)) [] (tookOf i b ++ within is (ref.refItem M i b .end))
 
   -- what the host sees of one, and its PDU
   abbrev pub entryAt : Took → Entry A
