@@ -5,14 +5,14 @@ use mathlib.Core.Bool.{Bool, true, false, not, _&&_}
 use mathlib.Core.List.{List, [], _∷_}
 use mathlib.Core.Path.{_≡_, refl, sym, _∙_}
 use native.Mathlib.Omega.{arith}
-use lib.ListN.{length, take, drop, getD, drop-of-length-le}
+use lib.ListN.{length, drop, getD, drop-of-length-le}
 use lib.Seq.{take-nil, getD-take, getD-drop}
 use borrow.Author.Needs.{needs}
 use borrow.Author.Tests.{eq-eqb, ne-eqb}
 use Rattle.laws.specs.Lists.{among, distinct}
 use Rattle.items.specs.Items.{walk, itemEnd}
 use Rattle.items.proofs.WalkLaws.{Item, more, walking}
-use Rattle.items.proofs.ItemLaws.{bodyAt, bodies-more, bodies-skip, bodies-stop, bodies-over}
+use Rattle.items.proofs.ItemLaws.{bodies-more, bodies-skip, bodies-stop, bodies-over}
 use Rattle.contents.specs.Contents.{ids}
 use Rattle.contents.specs.Private.Order.{idAt}
 

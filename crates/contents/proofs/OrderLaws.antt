@@ -2,7 +2,7 @@
 -- Assumes nothing.
 use Prim.Native.Nat.{ℕ, zero, suc}
 use native.Mathlib.Omega.{arith}
-use mathlib.Core.Bool.{Bool, true, false, _&&_, _||_, cond, and-false, or-true}
+use mathlib.Core.Bool.{Bool, true, false, not, _&&_, _||_, cond, and-false, or-true}
 use mathlib.Core.List.{List, [], _∷_, _++_, append-nil}
 use mathlib.Core.Path.{_≡_, refl, sym, ap, _∙_}
 use lib.ListN.{length, replicate}
@@ -60,9 +60,9 @@ module _ (m : ℕ) (e : List ℕ) where
         go zero q = refl
         go (suc n) q =
             rw h (sym (over (sameBytes (t ∷ ts) e) (λ s.
-              let w : times m (t ∷ ts) ≡ 0 = ap (times m) (same-equal (t ∷ ts) e (held (sameBytes (t ∷ ts) e) s)) ∙ z in
-              let v : times m (t ∷ ts) ≡ suc n = rw h q in
-              omega arith)))
+            let w : times m (t ∷ ts) ≡ 0 = ap (times m) (same-equal (t ∷ ts) e (held (sameBytes (t ∷ ts) e) s)) ∙ z in
+            let v : times m (t ∷ ts) ≡ suc n = rw h q in
+            omega arith)))
 
     many-lost : (leb 1 (times m (t ∷ ts)) && manyThen (t ∷ ts)) ≡ false
     unfolding times
@@ -81,26 +81,25 @@ module _ (good : ℕ → List ℕ → Bool) (a m z end : ℕ) where
   abbrev known : ℕ → Bool
   known t = eqb t a || (eqb t m || eqb t z)
 
-  next-known : (st t : ℕ) → known t ≡ true
-      → next a m z st t ≡ cond (eqb t a) (cond (eqb st 0) 1 wrong) (cond (eqb t m) (cond (eqb st 1) 2 (cond (eqb st 2) 2 wrong)) (cond (eqb st 2) 3 wrong))
+  -- the state after a known type
+  abbrev led : ℕ → ℕ → ℕ
+  led st t = cond (eqb t a) (cond (eqb st 0) 1 wrong) (cond (eqb t m) (cond (eqb st 1) 2 (cond (eqb st 2) 2 wrong)) (cond (eqb st 2) 3 wrong))
+
+  next-is : (st t : ℕ) → next a m z st t ≡ cond (known t) (led st t) st
   unfolding next
-  next-known st t = go (eqb t a) (eqb t m) (eqb t z) (cond (eqb st 0) 1 wrong) (cond (eqb st 1) 2 (cond (eqb st 2) 2 wrong)) (cond (eqb st 2) 3 wrong)
+  next-is st t = go (eqb t a) (eqb t m) (eqb t z) (cond (eqb st 0) 1 wrong) (cond (eqb st 1) 2 (cond (eqb st 2) 2 wrong)) (cond (eqb st 2) 3 wrong)
     where
-      go : (p q r : Bool) (x y w : ℕ) → (p || (q || r)) ≡ true → cond p x (cond q y (cond r w st)) ≡ cond p x (cond q y w)
-      go true q r x y w h = refl
-      go false true r x y w h = refl
-      go false false true x y w h = refl
-      go false false false x y w h = absurd (held false h)
+      go : (p q r : Bool) (x y w : ℕ) → cond p x (cond q y (cond r w st)) ≡ cond (p || (q || r)) (cond p x (cond q y w)) st
+      go true q r x y w = refl
+      go false true r x y w = refl
+      go false false true x y w = refl
+      go false false false x y w = refl
+
+  next-known : (st t : ℕ) → known t ≡ true → next a m z st t ≡ led st t
+  next-known st t h = next-is st t ∙ rw h
 
   next-skips : (st t : ℕ) → known t ≡ false → next a m z st t ≡ st
-  unfolding next
-  next-skips st t = go (eqb t a) (eqb t m) (eqb t z) (cond (eqb st 0) 1 wrong) (cond (eqb st 1) 2 (cond (eqb st 2) 2 wrong)) (cond (eqb st 2) 3 wrong)
-    where
-      go : (p q r : Bool) (x y w : ℕ) → (p || (q || r)) ≡ false → cond p x (cond q y (cond r w st)) ≡ st
-      go true q r x y w h = absurd (held false (sym h))
-      go false true r x y w h = absurd (held false (sym h))
-      go false false true x y w h = absurd (held false (sym h))
-      go false false false x y w h = refl
+  next-skips st t h = next-is st t ∙ rw h
 
   -- none leads on from an item out of order
   stuck : (ts : List ℕ) → all known ts ≡ true → stateAfter (inOrder good a m z end) wrong ts ≡ wrong
@@ -225,55 +224,37 @@ few-50 : (ts : List ℕ) → sameBytes ts (topOrder 0x50 (times 0x50 ts)) ≡ fa
 unfolding times
 few-50 ts = few 0x50 ts (λ e. let n = times-same 0x50 (times 0x50 ts) (0x50 ∷ []) in omega arith)
 
--- from 1 no 10H leads on
-tens-1 : (ts : List ℕ) → all (topType 0x10) ts ≡ true → eqb (stateAfter (topRule 0x10) 1 ts) 3 ≡ false
+-- states that known types do not lead out of
+never : (k : ℕ) (in? : ℕ → Bool) → in? 3 ≡ false → ((st t : ℕ) → topType k t ≡ true → in? st ≡ true → in? (led (topGood k) 0x10 k 0x50 3 st t) ≡ true)
+    → (ts : List ℕ) (st : ℕ) → all (topType k) ts ≡ true → in? st ≡ true → eqb (stateAfter (topRule k) st ts) 3 ≡ false
 unfolding stateAfter
-tens-1 [] h = refl
-tens-1 (t ∷ ts) h = rw (next-known (topGood 0x10) 0x10 0x10 0x50 3 1 t (left-of _ _ h)) (go (eqb t 0x10) (top-lost 0x10 ts (right-of (topType 0x10 t) _ h)))
-  where
-    go : (p : Bool) → eqb (stateAfter (topRule 0x10) wrong ts) 3 ≡ false → eqb (stateAfter (topRule 0x10) (cond p wrong (cond p 2 wrong)) ts) 3 ≡ false
-    go true l = l
-    go false l = l
+never k in? n f [] st h i = over (eqb st 3) (λ e. held false (sym n ∙ (ap in? (sym (eqb-true st 3 e)) ∙ i)))
+never k in? n f (t ∷ ts) st h i =
+    let g : topType k t ≡ true = left-of _ _ h in
+    rw (next-known (topGood k) 0x10 k 0x50 3 st t g) (never k in? n f ts (led (topGood k) 0x10 k 0x50 3 st t) (right-of (topType k t) _ h) (f st t g i))
+
+abbrev early : ℕ → Bool
+early st = not (eqb st 2) && not (eqb st 3)
 
 tens : (ts : List ℕ) → all (topType 0x10) ts ≡ true → eqb (stateAfter (topRule 0x10) 0 ts) 3 ≡ false
-unfolding stateAfter
-tens [] h = refl
-tens (t ∷ ts) h = rw (next-known (topGood 0x10) 0x10 0x10 0x50 3 0 t (left-of _ _ h)) (go (eqb t 0x10) (right-of (topType 0x10 t) _ h))
+tens ts h = never 0x10 early refl (λ st t g. go st (eqb t 0x10) (eqb st 0) (eqb st 2)) ts 0 h refl
   where
-    go : (p : Bool) → all (topType 0x10) ts ≡ true → eqb (stateAfter (topRule 0x10) (cond p 1 (cond p wrong wrong)) ts) 3 ≡ false
-    go true r = tens-1 ts r
-    go false r = top-lost 0x10 ts r
-
--- no 50H leads to 3
-fifties-2 : (ts : List ℕ) → all (topType 0x50) ts ≡ true → eqb (stateAfter (topRule 0x50) 2 ts) 3 ≡ false
-unfolding stateAfter
-fifties-2 [] h = refl
-fifties-2 (t ∷ ts) h =
-    rw (next-known (topGood 0x50) 0x10 0x50 0x50 3 2 t (left-of _ _ h)) (go (eqb t 0x10) (eqb t 0x50) (left-of _ (all (topType 0x50) ts) h) (fifties-2 ts (right-of (topType 0x50 t) _ h)))
-  where
-    go : (p q : Bool) → (p || (q || q)) ≡ true → eqb (stateAfter (topRule 0x50) 2 ts) 3 ≡ false → eqb (stateAfter (topRule 0x50) (cond p wrong (cond q 2 3)) ts) 3 ≡ false
-    go true q g r = top-lost 0x50 ts (right-of (topType 0x50 t) _ h)
-    go false true g r = r
-    go false false g r = absurd (held false g)
-
-fifties-1 : (ts : List ℕ) → all (topType 0x50) ts ≡ true → eqb (stateAfter (topRule 0x50) 1 ts) 3 ≡ false
-unfolding stateAfter
-fifties-1 [] h = refl
-fifties-1 (t ∷ ts) h = rw (next-known (topGood 0x50) 0x10 0x50 0x50 3 1 t (left-of _ _ h)) (go (eqb t 0x10) (eqb t 0x50) (right-of (topType 0x50 t) _ h))
-  where
-    go : (p q : Bool) → all (topType 0x50) ts ≡ true → eqb (stateAfter (topRule 0x50) (cond p wrong (cond q 2 wrong)) ts) 3 ≡ false
-    go true q r = top-lost 0x50 ts r
-    go false true r = fifties-2 ts r
-    go false false r = top-lost 0x50 ts r
+    go : (st : ℕ) (p b d : Bool) → (not d && not (eqb st 3)) ≡ true → early (cond p (cond b 1 wrong) (cond p (cond (eqb st 1) 2 (cond d 2 wrong)) (cond d 3 wrong))) ≡ true
+    go st true true d i = refl
+    go st true false d i = refl
+    go st false b true i = i
+    go st false b false i = refl
 
 fifties : (ts : List ℕ) → all (topType 0x50) ts ≡ true → eqb (stateAfter (topRule 0x50) 0 ts) 3 ≡ false
-unfolding stateAfter
-fifties [] h = refl
-fifties (t ∷ ts) h = rw (next-known (topGood 0x50) 0x10 0x50 0x50 3 0 t (left-of _ _ h), nine (eqb t 0x50)) (go (eqb t 0x10) (right-of (topType 0x50 t) _ h))
+fifties ts h = never 0x50 (λ st. not (eqb st 3)) refl (λ st t g i. go (eqb t 0x10) (eqb t 0x50) (eqb st 0) (eqb st 1) (eqb st 2) g) ts 0 h refl
   where
-    go : (p : Bool) → all (topType 0x50) ts ≡ true → eqb (stateAfter (topRule 0x50) (cond p 1 wrong) ts) 3 ≡ false
-    go true r = fifties-1 ts r
-    go false r = top-lost 0x50 ts r
+    go : (p q b c d : Bool) → (p || (q || q)) ≡ true → not (eqb (cond p (cond b 1 wrong) (cond q (cond c 2 (cond d 2 wrong)) (cond d 3 wrong))) 3) ≡ true
+    go true q true c d g = refl
+    go true q false c d g = refl
+    go false true b true d g = refl
+    go false true b false true g = refl
+    go false true b false false g = refl
+    go false false b c d g = absurd (held false g)
 
 -- ---- any type
 apart : (k t : ℕ) → eqb k t ≡ false → eqb t k ≡ false

@@ -2,8 +2,8 @@
 -- Assumes nothing.
 use Prim.Native.Nat.{ℕ, _+_, _-_, _%_, _≤_, _<_}
 use native.Mathlib.Omega.{arith}
-use mathlib.Core.Bool.{Bool, true, false, not, _&&_, _||_, cond, and-false}
-use mathlib.Core.List.{List, [], _∷_}
+use mathlib.Core.Bool.{Bool, true, false, not, _&&_, cond, and-false}
+use mathlib.Core.List.{List, []}
 use mathlib.Core.Path.{_≡_, refl, sym, ap, _∙_}
 use lib.ListN.{length, take, drop, getD}
 use lib.Dec.{leb, eqb}
@@ -11,14 +11,13 @@ use borrow.Author.Needs.{needs}
 use borrow.Author.Tests.{le-leb, lt-leb, leb-true, leb-false, eq-eqb, ne-eqb, eqb-true, eqb-false, not-true, not-false}
 use Rattle.laws.proofs.Booleans.{left-of, right-of, both-of}
 use Rattle.laws.proofs.Places.{part-tail}
-use Rattle.laws.proofs.Tests.{deciding, decide, and-step, no-here}
+use Rattle.laws.proofs.Tests.{deciding}
 use Rattle.octets.specs.Octets.{be16, be32, odd}
 use Rattle.titles.specs.Title.{titleOk}
 use Rattle.contents.specs.Contents.{itemsOk, maximumIn}
 use Rattle.pdvs.specs.Data.{pdvsOk}
-use Rattle.reasons.specs.Values.{rejectOk, abortOk}
 use Rattle.judging.specs.Private.Kinds.{kindAs}
-use Rattle.judging.specs.Pdu.{pduLength, whole, requestOk, acceptOk, rejectPduOk, dataOk, releaseOk, abortPduOk, validAs, kindOf, acceptable, maximumOf}
+use Rattle.judging.specs.Pdu.{pduLength, whole, requestOk, acceptOk, rejectPduOk, dataOk, abortPduOk, validAs, kindOf, acceptable, maximumOf}
 
 -- ---- `is_whole`
 module _ (x : List ℕ) where

@@ -1,6 +1,6 @@
 -- Which of the seven a whole PDU is: document 01, 'Valid PDUs'. "Reserved bytes are never tested."
 use Prim.Native.Nat.{ℕ, _+_}
-use mathlib.Core.Bool.{Bool, true, false, _&&_, _||_, cond}
+use mathlib.Core.Bool.{Bool, false, _&&_, _||_, cond}
 use mathlib.Core.List.{List}
 use lib.ListN.{length, take, drop, getD}
 use lib.Dec.{leb, eqb}

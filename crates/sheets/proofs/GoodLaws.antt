@@ -13,7 +13,7 @@ use borrow.Author.Tests.{le-leb, lt-leb, eq-eqb, ne-eqb, eqb-true, eqb-false, no
 use Rattle.laws.specs.Lists.{all, distinct, sameBytes}
 use Rattle.laws.proofs.Booleans.{left-of, right-of, both-of, held}
 use Rattle.laws.proofs.Places.{all-passes, all-fails, all-end, part-tail}
-use Rattle.laws.proofs.Tests.{deciding}
+use Rattle.laws.proofs.Tests.{and-step, no-here, call-not, call-yes}
 use Rattle.laws.proofs.Same.{same-equal}
 use Rattle.names.specs.Name.{nameOk}
 use Rattle.octets.specs.Octets.{odd}
@@ -85,7 +85,7 @@ module _ (x a : List ℕ) (e : x ≡ a) (b : Bool) where
   pub transfer-as : (result : ℕ) → b ≡ transferNameOk result x → b ≡ transferNameOk result a
   transfer-as result q = q ∙ ap (transferNameOk result) e
 
-pub ruleset one-laws = (deciding, both-of, not-left, not-right, name-yes, name-not, name-as, transfer-as, needs)
+pub ruleset one-laws = (and-step, no-here, call-not, call-yes, eq-eqb, ne-eqb, le-leb, lt-leb, both-of, not-left, not-right, name-yes, name-not, name-as, transfer-as, needs)
 
 -- ---- `records_ok`
 module _ (k : Bool) (s : List ℕ) (at : ℕ) (v : all (recordOk k) (recordsOf (drop at s)) ≡ all (recordOk k) (recordsOf s)) (w : length s % 132 ≡ 0) (z : at % 132 ≡ 0) where
