@@ -9,7 +9,7 @@ use Rattle.framing.specs.Reference.{Machine, Reaction}
 use Rattle.table.specs.Actions.{showsOf}
 use Rattle.table.specs.Table.{cellOf, isReceived}
 use Rattle.writing.specs.Form.{Form, formTests}
-use Rattle.writing.specs.Ten.{tenOf, NONE}
+use Rattle.writing.specs.Ten.{tenOf, NO-TEN}
 use Rattle.association.specs.declared.Assoc.{Assoc}
 use Rattle.association.specs.Record.{dropping}
 use Rattle.association.specs.Events.{Local, Sends, eventOf, invalidPdu, numberOf, sendsOf}
@@ -54,7 +54,7 @@ inputOf (given f) = contents (f .pdu)
 
 -- the form of what it wants sent
 abbrev pub formOf : ℕ → Sends → Form
-formOf action own = record { good = true; most = 16384; pdu = tenOf (tenBy action false NONE) }
+formOf action own = record { good = true; most = 16384; pdu = tenOf (tenBy action false NO-TEN) }
 formOf action bad = record { good = false; most = 0; pdu = [] }
 formOf action (given f) = f
 

@@ -5,7 +5,7 @@ use mathlib.Core.List.{List, [], _∷_}
 use lib.Dec.{eqb, ltb}
 use Rattle.judging.specs.Pdu.{acceptable, maximumOf, typeOf}
 use Rattle.writing.specs.Ten.{tenOf}
-use Rattle.writing.specs.Ten.{NONE, ABORT-USER, ABORT-UNRECOGNIZED, ABORT-UNEXPECTED, ABORT-INVALID, REJECT-VERSION, RELEASE-RQ, RELEASE-RP}
+use Rattle.writing.specs.Ten.{NO-TEN, ABORT-USER, ABORT-UNRECOGNIZED, ABORT-UNEXPECTED, ABORT-INVALID, REJECT-VERSION, TEN-RELEASE-RQ, TEN-RELEASE-RP}
 use Rattle.table.specs.ActionNames.{AE-1, AE-3, AE-6, AR-1, AR-4, AR-9, AA-1, AA-7, AA-8}
 use Rattle.table.specs.Actions.{nextOf, artimOf, showsOf}
 use Rattle.association.specs.declared.Assoc.{Assoc}
@@ -73,23 +73,23 @@ abortFor event type =
 abbrev pub abortBy : ℕ → Input → ℕ
 abortBy event (whole pdu) = abortFor event (typeOf pdu)
 abortBy event long = ABORT-INVALID
-abortBy event bare = NONE
-abortBy event (contents pdu) = NONE
+abortBy event bare = NO-TEN
+abortBy event (contents pdu) = NO-TEN
 
 -- the ten-byte PDU that an action sends by itself: AE-6 where it rejects "result 1, source 2, reason 2"; "AA-1 source 0, reason 0. AA-7 and AA-8 source 2"
 unfoldable pub tenBy : ℕ → Bool → ℕ → ℕ
 tenBy action accepts abort =
-    cond (eqb action AE-6) (cond accepts NONE REJECT-VERSION)
-    (cond (eqb action AR-1) RELEASE-RQ
-    (cond (eqb action AR-4) RELEASE-RP
-    (cond (eqb action AR-9) RELEASE-RP
+    cond (eqb action AE-6) (cond accepts NO-TEN REJECT-VERSION)
+    (cond (eqb action AR-1) TEN-RELEASE-RQ
+    (cond (eqb action AR-4) TEN-RELEASE-RP
+    (cond (eqb action AR-9) TEN-RELEASE-RP
     (cond (eqb action AA-1) ABORT-USER
     (cond (eqb action AA-7) abort
     (cond (eqb action AA-8) abort
-    NONE))))))
+    NO-TEN))))))
 
 abbrev pub sentBy : ℕ → ℕ → Bool → Input → List ℕ
 sentBy action event accepts (whole pdu) = tenOf (tenBy action accepts (abortBy event (whole pdu)))
 sentBy action event accepts long = tenOf (tenBy action accepts (abortBy event long))
-sentBy action event accepts bare = tenOf (tenBy action accepts NONE)
+sentBy action event accepts bare = tenOf (tenBy action accepts NO-TEN)
 sentBy action event accepts (contents pdu) = pdu

@@ -13,7 +13,7 @@ use Rattle.laws.specs.Lists.{among}
 use Rattle.octets.specs.Put.{front, Placed}
 use Rattle.writing.specs.declared.Sent.{Sent}
 use Rattle.writing.specs.Form.{Form, formRefusal, Wrote}
-use Rattle.writing.specs.Ten.{tenOf, NONE}
+use Rattle.writing.specs.Ten.{tenOf, NO-TEN}
 use Rattle.writing.proofs.FormLaws.{refusal-4, refusal-is, refused-kept, sent-count, out-is}
 use Rattle.writing.proofs.TenLaws.{ten-out, ten-count, own-short, own-fine}
 use Rattle.association.specs.declared.Assoc.{Assoc}
@@ -115,7 +115,7 @@ module _ (a : Assoc) (g o : List ℕ) (e : Local) (number : ℕ) (k : Gate) (ek 
     went = rw (local-steps a g o e, eq-eqb _ _ (G .clear), request-steps a e (length o), same, es, ne-eqb (k .action) 0 (λ z. G .filled (sym (G .act) ∙ z)), en)
 
 -- ---- the call once nothing refuses it, by what it wants sent
-own-done : (a : Assoc) (g o : List ℕ) (act number : ℕ) → doneWith a g o act number own ≡ call (doneLocally a act (length (tenOf (tenBy act false NONE)))) g (front o (tenOf (tenBy act false NONE)))
+own-done : (a : Assoc) (g o : List ℕ) (act number : ℕ) → doneWith a g o act number own ≡ call (doneLocally a act (length (tenOf (tenBy act false NO-TEN)))) g (front o (tenOf (tenBy act false NO-TEN)))
 unfolding doneWith doing doneLocally
 own-done a g o act number = refl
 
@@ -149,7 +149,7 @@ module _ (a : Assoc) (g o : List ℕ) (number : ℕ) (k : Gate) (ek : k ≡ gate
   pub plain-bad : (r : Answer) → x ≡ true → r ≡ refusedWith 4 a → call r g o ≡ localOf a g o (plain number)
   plain-bad r t er = rw er (sym (went a g o (plain number) number k ek refl z bad (sends bad (rw t)) ∙ rw (refusal-4 (formOf (k .action) bad) (length o) refl)))
 
-  module _ (f : x ≡ false) (ten : ℕ) (et : ten ≡ tenBy (k .action) false NONE) (n : ℕ) (en : n ≡ length (tenOf ten)) where
+  module _ (f : x ≡ false) (ten : ℕ) (et : ten ≡ tenBy (k .action) false NO-TEN) (n : ℕ) (en : n ≡ length (tenOf ten)) where
     own-went : localOf a g o (plain number)
         ≡ unless (formRefusal (record { good = true; most = 16384; pdu = tenOf ten }) (length o)) a g o (call (doneLocally a (k .action) (length (tenOf ten))) g (front o (tenOf ten)))
     own-went = went a g o (plain number) number k ek refl z own (sends own (rw f)) ∙ rw (own-done a g o (k .action) number, ← et)

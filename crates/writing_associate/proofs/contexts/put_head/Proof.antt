@@ -1,14 +1,13 @@
--- `put_answer_head` meets its contract.
+-- `put_head` meets its contract.
 -- Assumes nothing.
 use Rattle.writing_associate.proofs.ContextLaws.{head-laws}
-use Rattle.writing_associate.proofs.contexts.put_answer_head.Statement.{statement}
-use Rattle.writing_associate.proofs.contexts.put_answer_head.Tie as tie
+use Rattle.writing_associate.proofs.contexts.put_head.Statement.{statement}
+use Rattle.writing_associate.proofs.contexts.put_head.Tie as tie
 
-pub put-answer-head-spec : {M : Type 1} → statement M
-put-answer-head-spec =
+pub put-head-spec : {M : Type 1} → statement M
+put-head-spec =
     tie.close
     (tie.spec
-    (λ c. search head-laws)  -- add-n
     (λ c. search head-laws)  -- cast-t9
     (λ c. search head-laws)  -- cast-t11
     (λ c. search head-laws)  -- slice-aggregate-put

@@ -1,8 +1,8 @@
 -- `put_fixed` meets its contract.
 -- Assumes nothing.
-use Rattle.writing_associate.proofs.FrameLaws.{fixed-laws}
-use Rattle.writing_associate.proofs.frame.put_fixed.Statement.{statement}
-use Rattle.writing_associate.proofs.frame.put_fixed.Tie as tie
+use Rattle.writing_associate.proofs.PduLaws.{fixed-laws}
+use Rattle.writing_associate.proofs.pdu.put_fixed.Statement.{statement}
+use Rattle.writing_associate.proofs.pdu.put_fixed.Tie as tie
 
 pub put-fixed-spec : {M : Type 1} → statement M
 put-fixed-spec =

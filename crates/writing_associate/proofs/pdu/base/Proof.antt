@@ -1,8 +1,8 @@
 -- `base` meets its contract.
 -- Assumes nothing.
-use Rattle.writing_associate.proofs.FrameLaws.{base-laws}
-use Rattle.writing_associate.proofs.frame.base.Statement.{statement}
-use Rattle.writing_associate.proofs.frame.base.Tie as tie
+use Rattle.writing_associate.proofs.PduLaws.{base-laws}
+use Rattle.writing_associate.proofs.pdu.base.Statement.{statement}
+use Rattle.writing_associate.proofs.pdu.base.Tie as tie
 
 pub base-spec : {M : Type 1} → statement M
 base-spec =

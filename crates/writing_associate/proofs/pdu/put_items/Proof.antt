@@ -1,8 +1,8 @@
 -- `put_items` meets its contract.
 -- Assumes nothing.
-use Rattle.writing_associate.proofs.FrameLaws.{items-laws}
-use Rattle.writing_associate.proofs.frame.put_items.Statement.{statement}
-use Rattle.writing_associate.proofs.frame.put_items.Tie as tie
+use Rattle.writing_associate.proofs.PduLaws.{items-laws}
+use Rattle.writing_associate.proofs.pdu.put_items.Statement.{statement}
+use Rattle.writing_associate.proofs.pdu.put_items.Tie as tie
 
 pub put-items-spec : {M : Type 1} → statement M
 put-items-spec =

@@ -1,8 +1,8 @@
--- Laws of the frame of an A-ASSOCIATE-RQ and -AC: its parts, its length, and what the calls that write one answer.
+-- Laws of an A-ASSOCIATE-RQ and -AC as they are written: the parts, the length, and what the calls answer.
 -- Assumes nothing.
 use Prim.Native.Nat.{ℕ, _+_, _≤_, _<_}
 use native.Mathlib.Omega.{arith}
-use mathlib.Core.Bool.{Bool, true, false, cond}
+use mathlib.Core.Bool.{Bool, true, false}
 use mathlib.Core.List.{List, [], _∷_, _++_, map, append-assoc}
 use mathlib.Core.Path.{_≡_, refl, sym, ap, _∙_}
 use lib.ListN.{length, getD, length-append}
@@ -10,6 +10,8 @@ use lib.Dec.{leb}
 use borrow.Author.Needs.{needs}
 use borrow.Author.Tests.{leb-false}
 use Rattle.laws.specs.Lists.{joined}
+use Rattle.numbers.specs.Refusals.{NOT-REFUSED, SHORT-OUTPUT, LONG-PDU}
+use Rattle.numbers.specs.Lengths.{HEADER, LONGEST}
 use Rattle.octets.specs.Octets.{four}
 use Rattle.octets.specs.Put.{Placed}
 use Rattle.octets.specs.Private.Put.{Put}
@@ -20,8 +22,9 @@ use Rattle.items.proofs.WireLaws.{item-length}
 use Rattle.sheets.specs.Contexts.{Context}
 use Rattle.sheets.specs.Sheet.{contextsIn}
 use Rattle.writing.specs.Wire.{pduBytes, associateItems, associateBytes, ourUser, contextBody}
-use Rattle.writing.specs.Form.{Wrote}
-use Rattle.writing_associate.specs.Private.Frames.{openBytes, contextBytes, capped, base, frameOf, frameForm, itemPart, fixedPart, Fit, Measured}
+use Rattle.writing.specs.Form.{Wrote, goodForm}
+use Rattle.writing_associate.specs.Private.ContextItems.{openBytes, contextBytes, capped}
+use Rattle.writing_associate.specs.Private.Pdu.{pduKind, pduOf, base, itemPart, fixedPart, Fit, Measured}
 use Rattle.writing.proofs.FormLaws.{wrote-long, wrote-short, wrote-fine}
 
 -- ---- `user`, `base`
@@ -56,14 +59,14 @@ part-is : (k : Bool) (a s : List ℕ) → length (itemPart k a s) ≡ 4 + length
 unfolding itemPart
 part-is k a s = let u = user-eight in let l : length (itemPart k a s) ≡ 4 + length a + (length (contextBytes k false s 0) + (4 + length (joined ourUser))) = simp (length-append, item-length) in omega arith
 
-module _ (k : Bool) (o a s : List ℕ) (at : ℕ) (h : at + length (itemPart k a s) ≤ length o) (m : length (itemPart k a s) ≤ 16384) where
+module _ (k : Bool) (o a s : List ℕ) (at : ℕ) (h : at + length (itemPart k a s) ≤ length o) (m : length (itemPart k a s) ≤ LONGEST) where
   pub items-room-1 : at + 4 + length a ≤ length o
   items-room-1 = let l = part-is k a s in omega arith
 
   pub items-name : length a < 65536
   items-name = let l = part-is k a s in omega arith
 
-  pub items-small : length (contextBytes k false s 0) ≤ 16384
+  pub items-small : length (contextBytes k false s 0) ≤ LONGEST
   items-small = let l = part-is k a s in omega arith
 
   module _ (o₁ : List ℕ) (i : ℕ) (p : Put o at (itemBytes 0x10 a) i o₁) where
@@ -106,106 +109,103 @@ user-small v f = let d = ap length f in let e = user-eight in omega arith
 
 pub ruleset items-laws = (needs, items-room-1, items-name, items-small, items-room-2, items-room-3, user-small, items-put)
 
--- ---- the frame is its fixed part and its items
+-- ---- the PDU is its fixed part and its items
 open-all : (cs : List Context) → openBytes false cs ≡ itemsBytes 0x20 (map contextBody cs)
 unfolding openBytes
 open-all [] = refl
 open-all (c ∷ cs) = refl
 
-frame-items : (k : Bool) (middle a s : List ℕ) → associateItems (frameOf k middle a s) ≡ itemPart k a s
-unfolding associateItems frameOf itemPart contextBytes
-frame-items true middle a s = refl
-frame-items false middle a s = rw (open-all (contextsIn s))
+pdu-items : (k : Bool) (middle a s : List ℕ) → associateItems (pduOf k middle a s) ≡ itemPart k a s
+unfolding associateItems pduOf itemPart contextBytes
+pdu-items true middle a s = refl
+pdu-items false middle a s = rw (open-all (contextsIn s))
 
-pub frame-parts : (k : Bool) (middle a s : List ℕ) (n : ℕ) → length middle ≡ 64 → n ≡ 68 + length (itemPart k a s) → associateBytes (frameOf k middle a s) ≡ fixedPart (cond k 0x02 0x01) n middle ++ itemPart k a s
-unfolding associateBytes pduBytes fixedPart frameOf
-frame-parts k middle a s n l e =
-    let i = frame-items k middle a s in
-    let b : length (0 ∷ 1 ∷ 0 ∷ 0 ∷ (middle ++ associateItems (frameOf k middle a s))) ≡ n = (let c = length-append middle (associateItems (frameOf k middle a s)) in let d = ap length i in omega arith) in
+pub pdu-parts : (k : Bool) (middle a s : List ℕ) (n : ℕ) → length middle ≡ 64 → n ≡ 68 + length (itemPart k a s) → associateBytes (pduOf k middle a s) ≡ fixedPart (pduKind k) n middle ++ itemPart k a s
+unfolding associateBytes pduBytes fixedPart pduOf
+pdu-parts k middle a s n l e =
+    let i = pdu-items k middle a s in
+    let b : length (0 ∷ 1 ∷ 0 ∷ 0 ∷ (middle ++ associateItems (pduOf k middle a s))) ≡ n = (let c = length-append middle (associateItems (pduOf k middle a s)) in let d = ap length i in omega arith) in
     rw (b, i)
 
 fixed-long : (kind n : ℕ) (middle : List ℕ) → length middle ≡ 64 → length (fixedPart kind n middle) ≡ 74
 unfolding fixedPart
 fixed-long kind n middle l = omega arith
 
-pub frame-long : (k : Bool) (middle a s : List ℕ) → length middle ≡ 64 → length (associateBytes (frameOf k middle a s)) ≡ base a (joined ourUser) + length (contextBytes k false s 0) + 6
+pub pdu-long : (k : Bool) (middle a s : List ℕ) → length middle ≡ 64 → length (associateBytes (pduOf k middle a s)) ≡ base a (joined ourUser) + length (contextBytes k false s 0) + HEADER
 unfolding base
-frame-long k middle a s l =
+pdu-long k middle a s l =
     let n : ℕ = 68 + length (itemPart k a s) in
-    let e = ap length (frame-parts k middle a s n l refl) in
-    let c = length-append (fixedPart (cond k 0x02 0x01) n middle) (itemPart k a s) in
-    let f = fixed-long (cond k 0x02 0x01) n middle l in
+    let e = ap length (pdu-parts k middle a s n l refl) in
+    let c = length-append (fixedPart (pduKind k) n middle) (itemPart k a s) in
+    let f = fixed-long (pduKind k) n middle l in
     let p = part-is k a s in
     let u = user-eight in
     omega arith
 
--- ---- `put_frame`
+-- ---- `put_pdu`
 module _ (k : Bool) (o middle a s : List ℕ) (n : ℕ) (w : Measured k middle a s n (length o)) where
   size-is : n ≡ 68 + length (itemPart k a s)
   unfolding base
   size-is = let z = w .size in let p = part-is k a s in let u = user-eight in omega arith
 
-  pub frame-fixed : 74 ≤ length o
-  frame-fixed = let z = size-is in let r = w .room in omega arith
+  pub pdu-fixed : 74 ≤ length o
+  pdu-fixed = let z = size-is in let r = w .room in omega arith
 
-  pub frame-small : length (itemPart k a s) ≤ 16384
-  frame-small = let z = size-is in let r = w .limit in omega arith
+  pub pdu-small : length (itemPart k a s) ≤ LONGEST
+  pdu-small = let z = size-is in let r = w .limit in omega arith
 
-  module _ (o₁ : List ℕ) (i kind : ℕ) (e : kind ≡ cond k 0x02 0x01) (p : Put o 0 (fixedPart kind n middle) i o₁) where
+  module _ (o₁ : List ℕ) (i kind : ℕ) (e : kind ≡ pduKind k) (p : Put o 0 (fixedPart kind n middle) i o₁) where
     both-parts : 0 + (length (fixedPart kind n middle) + length (itemPart k a s)) ≤ length o
     both-parts = let z = size-is in let r = w .room in let f = fixed-long kind n middle (w .fit .middle-long) in omega arith
 
-    pub frame-room : i + length (itemPart k a s) ≤ length o₁
-    frame-room = next-room o 0 (fixedPart kind n middle) (itemPart k a s) o₁ i both-parts p
+    pub pdu-room : i + length (itemPart k a s) ≤ length o₁
+    pdu-room = next-room o 0 (fixedPart kind n middle) (itemPart k a s) o₁ i both-parts p
 
-    pub frame-put : (o₂ : List ℕ) (r : ℕ) → Put o₁ i (itemPart k a s) r o₂ → Put o 0 (associateBytes (frameOf k middle a s)) r o₂
-    frame-put o₂ r q =
+    pub pdu-put : (o₂ : List ℕ) (r : ℕ) → Put o₁ i (itemPart k a s) r o₂ → Put o 0 (associateBytes (pduOf k middle a s)) r o₂
+    pdu-put o₂ r q =
         let all = next-put o 0 (fixedPart kind n middle) (itemPart k a s) o₁ i both-parts p q in
-        rw (frame-parts k middle a s n (w .fit .middle-long) size-is, ← e) all
+        rw (pdu-parts k middle a s n (w .fit .middle-long) size-is, ← e) all
 
-pub ruleset frame-laws = (needs, frame-fixed, frame-small, frame-room, frame-put)
+pub ruleset pdu-laws = (needs, pdu-fixed, pdu-small, pdu-room, pdu-put)
 
--- ---- `write_frame`
-capped-over : (n x : ℕ) → n ≡ capped x → 16384 < n → 16384 < x
+-- ---- `write_pdu`
+capped-over : (n x : ℕ) → n ≡ capped x → LONGEST < n → LONGEST < x
 unfolding capped
-capped-over n x e h = go (leb x 16384) refl
+capped-over n x e h = go (leb x LONGEST) refl
   where
-    go : (b : Bool) → leb x 16384 ≡ b → 16384 < x
+    go : (b : Bool) → leb x LONGEST ≡ b → LONGEST < x
     go true q = let z : n ≡ x = e ∙ simp q in omega arith
-    go false q = leb-false x 16384 q
+    go false q = leb-false x LONGEST q
 
-capped-is : (n x : ℕ) → n ≡ capped x → n ≤ 16384 → n ≡ x
+capped-is : (n x : ℕ) → n ≡ capped x → n ≤ LONGEST → n ≡ x
 unfolding capped
-capped-is n x e h = go (leb x 16384) refl
+capped-is n x e h = go (leb x LONGEST) refl
   where
-    go : (b : Bool) → leb x 16384 ≡ b → n ≡ x
+    go : (b : Bool) → leb x LONGEST ≡ b → n ≡ x
     go true q = e ∙ simp q
-    go false q = let z : n ≡ 16385 = e ∙ simp q in absurd (omega arith)
+    go false q = let z : n ≡ LONGEST + 1 = e ∙ simp q in absurd (omega arith)
 
 pub fit-name : (middle a s : List ℕ) → Fit middle a s → length a ≤ 64
 fit-name middle a s f = f .name-short
 
 module _ (k : Bool) (o middle a s : List ℕ) (n b : ℕ) (f : Fit middle a s) (e : b ≡ base a (joined ourUser)) (g : n ≡ capped (b + length (contextBytes k false s 0))) where
-  long-is : length (associateBytes (frameOf k middle a s)) ≡ b + length (contextBytes k false s 0) + 6
-  long-is = frame-long k middle a s (f .middle-long) ∙ rw e
+  long-is : length (associateBytes (pduOf k middle a s)) ≡ b + length (contextBytes k false s 0) + HEADER
+  long-is = pdu-long k middle a s (f .middle-long) ∙ rw e
 
-  pub frame-over : 16384 < n → Wrote (frameForm k middle a s) o (record { refusal = 5; count = 0 }) o
-  unfolding frameForm
-  frame-over h = let x = capped-over n _ g h in let l = long-is in wrote-long (frameForm k middle a s) o refl (omega arith)
+  pub pdu-over : LONGEST < n → Wrote (goodForm (associateBytes (pduOf k middle a s))) o (record { refusal = LONG-PDU; count = 0 }) o
+  pdu-over h = let x = capped-over n _ g h in let l = long-is in wrote-long (goodForm (associateBytes (pduOf k middle a s))) o refl (omega arith)
 
-  module _ (h : n ≤ 16384) where
-    fits : length (associateBytes (frameOf k middle a s)) ≡ n + 6
+  module _ (h : n ≤ LONGEST) where
+    fits : length (associateBytes (pduOf k middle a s)) ≡ n + HEADER
     fits = let x = capped-is n _ g h in let l = long-is in omega arith
 
-    pub frame-short : length o < n + 6 → Wrote (frameForm k middle a s) o (record { refusal = 2; count = 0 }) o
-    unfolding frameForm
-    frame-short l = let x = fits in wrote-short (frameForm k middle a s) o refl (omega arith) (omega arith)
+    pub pdu-short : length o < n + HEADER → Wrote (goodForm (associateBytes (pduOf k middle a s))) o (record { refusal = SHORT-OUTPUT; count = 0 }) o
+    pdu-short l = let x = fits in wrote-short (goodForm (associateBytes (pduOf k middle a s))) o refl (omega arith) (omega arith)
 
-    pub measured : n + 6 ≤ length o → Measured k middle a s n (length o)
+    pub measured : n + HEADER ≤ length o → Measured k middle a s n (length o)
     measured l = record { fit = f; size = capped-is n _ g h ∙ rw e; limit = h; room = l }
 
-    pub frame-fine : (o′ : List ℕ) (r : ℕ) → n + 6 ≤ length o → Put o 0 (associateBytes (frameOf k middle a s)) r o′ → Wrote (frameForm k middle a s) o (record { refusal = 0; count = r }) o′
-    unfolding frameForm
-    frame-fine o′ r l p = let x = fits in wrote-fine (frameForm k middle a s) o refl (omega arith) o′ r (omega arith) p
+    pub pdu-fine : (o′ : List ℕ) (r : ℕ) → n + HEADER ≤ length o → Put o 0 (associateBytes (pduOf k middle a s)) r o′ → Wrote (goodForm (associateBytes (pduOf k middle a s))) o (record { refusal = NOT-REFUSED; count = r }) o′
+    pdu-fine o′ r l p = let x = fits in wrote-fine (goodForm (associateBytes (pduOf k middle a s))) o refl (omega arith) o′ r (omega arith) p
 
-pub ruleset write-frame-laws = (needs, fit-name, frame-over, frame-short, measured, frame-fine)
+pub ruleset write-pdu-laws = (needs, fit-name, pdu-over, pdu-short, measured, pdu-fine)
