@@ -117,6 +117,13 @@ fill-body k s o₀ from o n at w e p ne h = fill-room (bodyRecords k) k s o₀ f
 pub ruleset fill-laws = (fill-start, fill-begin, fill-stop, fill-over, fill-long, fill-skip, fill-132, fill-body, fill-next, walking)
 
 -- ---- `put_context`
+answer-132 : (k : ℕ) (b : List ℕ) → (k ≡ 0x20 → ⊥) → length (bodyRecords k b) ≡ 132
+unfolding bodyRecords
+answer-132 k b e = rw (ne-eqb k 0x20 e) (record-132 (answerOf b .id) (answerOf b .result) [] (answerOf b .transfer))
+
+pub answered-room : (k n : ℕ) (b o : List ℕ) → (k ≡ 0x20 → ⊥) → n + length (bodyRecords k b) ≤ length o → n + 132 ≤ length o
+answered-room k n b o e h = let l = answer-132 k b e in omega arith
+
 module _ (k n : ℕ) (b s o : List ℕ) (id : ℕ) (p : s ≡ drop 4 b) (q : id ≡ getD b 0 0) where
   module _ (e : k ≡ 0x20) (a : List ℕ) (u : a ≡ first (bodies 0x30 (walk s))) where
     proposed-is : each (recordOf id 0 a) (bodies 0x40 (walk s)) ≡ bodyRecords k b
@@ -134,9 +141,6 @@ module _ (k n : ℕ) (b s o : List ℕ) (id : ℕ) (p : s ≡ drop 4 b) (q : id 
     unfolding bodyRecords answerOf
     answered-is = rw (ne-eqb k 0x20 e, g, u, p, q)
 
-    pub answered-room : n + length (bodyRecords k b) ≤ length o → n + 132 ≤ length o
-    answered-room h = let l = ap length answered-is in let r = record-132 id result [] x in omega arith
-
     pub answered-written : (m : ℕ) (o′ : List ℕ) → Put o n (recordOf id result [] x) m o′ → Put o n (bodyRecords k b) m o′
     answered-written m o′ w = rw answered-is at w
 
@@ -153,8 +157,7 @@ unfolding bodyRecords contextOf
 rows-proposed k r b x e p q = rw (q, p, e) (sym (each-size (contextOf b .id) (contextOf b .abstr) (contextOf b .transfers)))
 
 pub rows-answered : (k : ℕ) (b : List ℕ) → (k ≡ 0x20 → ⊥) → 132 * 1 ≡ length (bodyRecords k b)
-unfolding bodyRecords
-rows-answered k b e = rw (ne-eqb k 0x20 e) (sym (record-132 (answerOf b .id) (answerOf b .result) [] (answerOf b .transfer)))
+rows-answered k b e = sym (answer-132 k b e)
 
 pub ruleset rows-in-laws = (needs, rows-proposed, rows-answered)
 

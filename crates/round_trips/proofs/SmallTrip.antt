@@ -62,11 +62,11 @@ abort-trip f g =
 
 -- ---- RELEASE-RQ, RELEASE-RP
 pub release-rq-trip : kindOf (releaseRqForm .pdu) ≡ 5
-unfolding releaseRqForm tenOf tens whole validAs releaseOk kindOf be32 be16
+unfolding tenOf tens whole validAs releaseOk kindOf be32 be16
 release-rq-trip = refl
 
 pub release-rp-trip : kindOf (releaseRpForm .pdu) ≡ 6
-unfolding releaseRpForm tenOf tens whole validAs releaseOk kindOf be32 be16
+unfolding tenOf tens whole validAs releaseOk kindOf be32 be16
 release-rp-trip = refl
 
 -- ---- P-DATA-TF: local items are good on receipt
