@@ -8,6 +8,10 @@ ghost use Rattle.writing.specs.Fields.{rejectOf, abortOf, abortGood};
 ghost use Rattle.writing.specs.Ten.{TEN-RELEASE-RP, tenOf};
 ghost use Rattle.writing.specs.Form.{Wrote, goodForm, rejectForm, releaseRqForm, releaseRpForm, abortForm};
 use crate::Sent;
+use numbers::ABORT;
+use numbers::ASSOCIATE_RJ;
+use numbers::RELEASE_RP;
+use numbers::RELEASE_RQ;
 
 // The fixed ones by number.
 pub const NO_TEN: u8 = 0;
@@ -31,13 +35,13 @@ fn ten_of(which: u8) -> [u8; 10]
     ensures { λ r. ⌜ r ≡ tenOf which ⌝ }
 {
     match which {
-        ABORT_USER => [numbers::ABORT, 0, 0, 0, 0, 4, 0, 0, 0, 0],
-        ABORT_UNRECOGNIZED => [numbers::ABORT, 0, 0, 0, 0, 4, 0, 0, 2, 1],
-        ABORT_UNEXPECTED => [numbers::ABORT, 0, 0, 0, 0, 4, 0, 0, 2, 2],
-        ABORT_INVALID => [numbers::ABORT, 0, 0, 0, 0, 4, 0, 0, 2, 6],
-        REJECT_VERSION => [numbers::ASSOCIATE_RJ, 0, 0, 0, 0, 4, 0, 1, 2, 2],
-        TEN_RELEASE_RQ => [numbers::RELEASE_RQ, 0, 0, 0, 0, 4, 0, 0, 0, 0],
-        _ => [numbers::RELEASE_RP, 0, 0, 0, 0, 4, 0, 0, 0, 0],
+        ABORT_USER => [ABORT, 0, 0, 0, 0, 4, 0, 0, 0, 0],
+        ABORT_UNRECOGNIZED => [ABORT, 0, 0, 0, 0, 4, 0, 0, 2, 1],
+        ABORT_UNEXPECTED => [ABORT, 0, 0, 0, 0, 4, 0, 0, 2, 2],
+        ABORT_INVALID => [ABORT, 0, 0, 0, 0, 4, 0, 0, 2, 6],
+        REJECT_VERSION => [ASSOCIATE_RJ, 0, 0, 0, 0, 4, 0, 1, 2, 2],
+        TEN_RELEASE_RQ => [RELEASE_RQ, 0, 0, 0, 0, 4, 0, 0, 0, 0],
+        _ => [RELEASE_RP, 0, 0, 0, 0, 4, 0, 0, 0, 0],
     }
 }
 
@@ -93,18 +97,7 @@ pub fn write_reject(result: u8, source: u8, reason: u8, out: &mut [u8]) -> Sent
             count: 0,
         };
     }
-    let pdu = [
-        numbers::ASSOCIATE_RJ,
-        0,
-        0,
-        0,
-        0,
-        4,
-        0,
-        result,
-        source,
-        reason,
-    ];
+    let pdu = [ASSOCIATE_RJ, 0, 0, 0, 0, 4, 0, result, source, reason];
     send(&pdu, out)
 }
 
@@ -128,7 +121,7 @@ pub fn write_abort(source: u8, reason: u8, out: &mut [u8]) -> Sent
             count: 0,
         };
     }
-    let pdu = [numbers::ABORT, 0, 0, 0, 0, 4, 0, 0, source, reason];
+    let pdu = [ABORT, 0, 0, 0, 0, 4, 0, 0, source, reason];
     send(&pdu, out)
 }
 
