@@ -17,13 +17,7 @@ count-of-spec =
     (tie.spec
     Inv-loop
     μ-loop
-    (λ c. search count-laws)  -- loop-holds
-    (λ c κs. search count-laws)  -- item-end-requires
-    (λ c. search count-laws)  -- returns
-    (λ c. search count-laws)  -- shared-slice-read-if2
-    (λ c. search count-laws)  -- add-n
-    (λ c. search count-laws)  -- loop-less
-    (λ c. search count-laws)  -- loop-again
-    (λ c. search count-laws)  -- loop-less-2
-    (λ c. search count-laws)  -- loop-again-2
+    (λ c. search count-laws) (λ c κs. search count-laws) (λ c. search count-laws)  -- loop-holds, item-end-requires, returns
+    (λ c. search count-laws) (λ c. search count-laws) (λ c. search count-laws)  -- shared-slice-read-if2, add-n, loop-less
+    (λ c. search count-laws) (λ c. search count-laws) (λ c. search count-laws)  -- loop-again, loop-less-2, loop-again-2
     (λ c. search count-laws))  -- returns-2

@@ -19,9 +19,5 @@ fills-spec =
     (tie.spec
     Inv-loop
     μ-loop
-    (λ c. search fills-laws)  -- loop-holds
-    (λ c κs. search fills-laws)  -- item-end-requires
-    (λ c. search fills-laws)  -- returns
-    (λ c. search fills-laws)  -- loop-less
-    (λ c. search fills-laws)  -- loop-again
-    (λ c. search fills-laws))  -- returns-2
+    (λ c. search fills-laws) (λ c κs. search fills-laws) (λ c. search fills-laws)  -- loop-holds, item-end-requires, returns
+    (λ c. search fills-laws) (λ c. search fills-laws) (λ c. search fills-laws))  -- loop-less, loop-again, returns-2

@@ -17,21 +17,9 @@ first-of-spec =
     (tie.spec
     Inv-loop
     μ-loop
-    (λ c. search first-laws)  -- loop-holds
-    (λ c κs. search first-laws)  -- item-end-requires
-    (λ c. search first-laws)  -- sub-result
-    (λ c. search first-laws)  -- part-result-start
-    (λ c. search first-laws)  -- part-result-end
-    (λ c. search first-laws)  -- returns
-    (λ c. search first-laws)  -- shared-slice-read-if2
-    (λ c. search first-laws)  -- add-b
-    (λ c. search first-laws)  -- sub-result-2
-    (λ c. search first-laws)  -- part-result-start-2
-    (λ c. search first-laws)  -- part-result-end-2
-    (λ c. search first-laws)  -- returns-2
-    (λ c. search first-laws)  -- loop-less
-    (λ c. search first-laws)  -- loop-again
-    (λ c. search first-laws)  -- sub-result-3
-    (λ c. search first-laws)  -- part-result-start-3
-    (λ c. search first-laws)  -- part-result-end-3
-    (λ c. search first-laws))  -- returns-3
+    (λ c. search first-laws) (λ c κs. search first-laws) (λ c. search first-laws)  -- loop-holds, item-end-requires, sub-result
+    (λ c. search first-laws) (λ c. search first-laws) (λ c. search first-laws)  -- part-result-start, part-result-end, returns
+    (λ c. search first-laws) (λ c. search first-laws) (λ c. search first-laws)  -- shared-slice-read-if2, add-b, sub-result-2
+    (λ c. search first-laws) (λ c. search first-laws) (λ c. search first-laws)  -- part-result-start-2, part-result-end-2, returns-2
+    (λ c. search first-laws) (λ c. search first-laws) (λ c. search first-laws)  -- loop-less, loop-again, sub-result-3
+    (λ c. search first-laws) (λ c. search first-laws) (λ c. search first-laws))  -- part-result-start-3, part-result-end-3, returns-3

@@ -7,15 +7,6 @@ pub item-end-spec : {M : Type 1} → statement M
 item-end-spec =
     tie.close
     (tie.spec
-    (λ c. search end-laws)  -- returns
-    (λ c. search end-laws)  -- sub-if2
-    (λ c. search end-laws)  -- returns-2
-    (λ c. search end-laws)  -- add-be16-at
-    (λ c κs. search end-laws)  -- be16-at-requires
-    (λ c. search end-laws)  -- cast-n
-    (λ c. search end-laws)  -- sub-if3
-    (λ c. search end-laws)  -- sub-if3-2
-    (λ c. search end-laws)  -- returns-3
-    (λ c. search end-laws)  -- add-result
-    (λ c. search end-laws)  -- add-result-2
-    (λ c. search end-laws))  -- returns-4
+    (λ c. search end-laws) (λ c. search end-laws) (λ c. search end-laws) (λ c. search end-laws)  -- returns, sub-if2, returns-2, add-be16-at
+    (λ c κs. search end-laws) (λ c. search end-laws) (λ c. search end-laws) (λ c. search end-laws)  -- be16-at-requires, cast-n, sub-if3, sub-if3-2
+    (λ c. search end-laws) (λ c. search end-laws) (λ c. search end-laws) (λ c. search end-laws))  -- returns-3, add-result, add-result-2, returns-4

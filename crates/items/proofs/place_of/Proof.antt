@@ -19,12 +19,6 @@ place-of-spec =
     (tie.spec
     Inv-loop
     μ-loop
-    (λ c. search place-laws)  -- loop-holds
-    (λ c κs. search place-laws)  -- item-end-requires
-    (λ c. search place-laws)  -- returns
-    (λ c. search place-laws)  -- shared-slice-read-if2
-    (λ c. search place-laws)  -- add-result
-    (λ c. search place-laws)  -- returns-2
-    (λ c. search place-laws)  -- loop-less
-    (λ c. search place-laws)  -- loop-again
-    (λ c. search place-laws))  -- returns-3
+    (λ c. search place-laws) (λ c κs. search place-laws) (λ c. search place-laws)  -- loop-holds, item-end-requires, returns
+    (λ c. search place-laws) (λ c. search place-laws) (λ c. search place-laws)  -- shared-slice-read-if2, add-result, returns-2
+    (λ c. search place-laws) (λ c. search place-laws) (λ c. search place-laws))  -- loop-less, loop-again, returns-3

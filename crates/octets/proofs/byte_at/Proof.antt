@@ -6,6 +6,4 @@ pub byte-at-spec : {M : Type 1} → statement M
 byte-at-spec =
     tie.close
     (tie.spec
-    (λ c. search byte-laws)  -- shared-slice-read-result
-    (λ c. search byte-laws)  -- returns
-    (λ c. search byte-laws))  -- returns-2
+    (λ c. search byte-laws) (λ c. search byte-laws) (λ c. search byte-laws))  -- shared-slice-read-result, returns, returns-2

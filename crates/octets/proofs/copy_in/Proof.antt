@@ -18,12 +18,6 @@ copy-in-spec =
     (tie.spec
     Inv-loop
     μ-loop
-    (λ c. search copy-laws)  -- loop-holds
-    (λ c. search copy-laws)  -- shared-slice-read-out
-    (λ c. search copy-laws)  -- add-out
-    (λ c. search copy-laws)  -- slice-write-out
-    (λ c. search copy-laws)  -- add-i
-    (λ c. search copy-laws)  -- loop-less
-    (λ c. search copy-laws)  -- loop-again
-    (λ c. search copy-laws)  -- same-length
-    (λ c. search copy-laws))  -- returns
+    (λ c. search copy-laws) (λ c. search copy-laws) (λ c. search copy-laws)  -- loop-holds, shared-slice-read-out, add-out
+    (λ c. search copy-laws) (λ c. search copy-laws) (λ c. search copy-laws) (λ c. search copy-laws)  -- slice-write-out, add-i, loop-less, loop-again
+    (λ c. search copy-laws) (λ c. search copy-laws))  -- same-length, returns

@@ -6,10 +6,5 @@ pub put-spec : {M : Type 1} → statement M
 put-spec =
     tie.close
     (tie.spec
-    (λ c. search put-laws)  -- returns
-    (λ c. search put-laws)  -- sub-if2
-    (λ c. search put-laws)  -- returns-2
-    (λ c κs. search put-laws)  -- copy-in-requires
-    (λ c. search put-laws)  -- add-result
-    (λ c. search put-laws)  -- same-length
-    (λ c. search put-laws))  -- returns-3
+    (λ c. search put-laws) (λ c. search put-laws) (λ c. search put-laws) (λ c κs. search put-laws)  -- returns, sub-if2, returns-2, copy-in-requires
+    (λ c. search put-laws) (λ c. search put-laws) (λ c. search put-laws))  -- add-result, same-length, returns-3

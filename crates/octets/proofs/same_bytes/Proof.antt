@@ -20,12 +20,6 @@ same-bytes-spec =
     (tie.spec
     Inv-loop
     μ-loop
-    (λ c. search same-laws)  -- returns
-    (λ c. search same-laws)  -- loop-holds
-    (λ c. search same-laws)  -- shared-slice-read-if2
-    (λ c. search same-laws)  -- shared-slice-read-if2-2
-    (λ c. search same-laws)  -- returns-2
-    (λ c. search same-laws)  -- add-i
-    (λ c. search same-laws)  -- loop-less
-    (λ c. search same-laws)  -- loop-again
-    (λ c. search same-laws))  -- returns-3
+    (λ c. search same-laws) (λ c. search same-laws) (λ c. search same-laws)  -- returns, loop-holds, shared-slice-read-if2
+    (λ c. search same-laws) (λ c. search same-laws) (λ c. search same-laws)  -- shared-slice-read-if2-2, returns-2, add-i
+    (λ c. search same-laws) (λ c. search same-laws) (λ c. search same-laws))  -- loop-less, loop-again, returns-3

@@ -17,16 +17,7 @@ pdvs-ok-spec =
     (tie.spec
     Inv-loop
     μ-loop
-    (λ c. search judge-laws)  -- returns
-    (λ c. search judge-laws)  -- loop-holds
-    (λ c κs. search judge-laws)  -- pdv-end-requires
-    (λ c. search judge-laws)  -- returns-2
-    (λ c. search judge-laws)  -- add-if3
-    (λ c. search judge-laws)  -- shared-slice-read-if3
-    (λ c. search judge-laws)  -- returns-3
-    (λ c. search judge-laws)  -- add-if4
-    (λ c. search judge-laws)  -- shared-slice-read-if4
-    (λ c. search judge-laws)  -- returns-4
-    (λ c. search judge-laws)  -- loop-less
-    (λ c. search judge-laws)  -- loop-again
-    (λ c. search judge-laws))  -- returns-5
+    (λ c. search judge-laws) (λ c. search judge-laws) (λ c κs. search judge-laws)  -- returns, loop-holds, pdv-end-requires
+    (λ c. search judge-laws) (λ c. search judge-laws) (λ c. search judge-laws)  -- returns-2, add-if3, shared-slice-read-if3
+    (λ c. search judge-laws) (λ c. search judge-laws) (λ c. search judge-laws)  -- returns-3, add-if4, shared-slice-read-if4
+    (λ c. search judge-laws) (λ c. search judge-laws) (λ c. search judge-laws) (λ c. search judge-laws))  -- returns-4, loop-less, loop-again, returns-5

@@ -7,9 +7,5 @@ pub abort-ok-spec : {M : Type 1} → statement M
 abort-ok-spec =
     tie.close
     (tie.spec
-    (λ c. search abort-laws)  -- returns
-    (λ c. search abort-laws)  -- returns-2
-    (λ c. search abort-laws)  -- returns-3
-    (λ c. search abort-laws)  -- returns-4
-    (λ c. search abort-laws)  -- returns-5
-    (λ c. search abort-laws))  -- returns-6
+    (λ c. search abort-laws) (λ c. search abort-laws) (λ c. search abort-laws) (λ c. search abort-laws)  -- returns, returns-2, returns-3, returns-4
+    (λ c. search abort-laws) (λ c. search abort-laws))  -- returns-5, returns-6

@@ -7,14 +7,7 @@ pub reject-ok-spec : {M : Type 1} → statement M
 reject-ok-spec =
     tie.close
     (tie.spec
-    (λ c. search reject-laws)  -- returns
-    (λ c. search reject-laws)  -- returns-2
-    (λ c. search reject-laws)  -- returns-3
-    (λ c. search reject-laws)  -- returns-4
-    (λ c. search reject-laws)  -- returns-5
-    (λ c. search reject-laws)  -- returns-6
-    (λ c. search reject-laws)  -- returns-7
-    (λ c. search reject-laws)  -- returns-8
-    (λ c. search reject-laws)  -- returns-9
-    (λ c. search reject-laws)  -- returns-10
-    (λ c. search reject-laws))  -- returns-11
+    (λ c. search reject-laws) (λ c. search reject-laws) (λ c. search reject-laws)  -- returns, returns-2, returns-3
+    (λ c. search reject-laws) (λ c. search reject-laws) (λ c. search reject-laws)  -- returns-4, returns-5, returns-6
+    (λ c. search reject-laws) (λ c. search reject-laws) (λ c. search reject-laws)  -- returns-7, returns-8, returns-9
+    (λ c. search reject-laws) (λ c. search reject-laws))  -- returns-10, returns-11

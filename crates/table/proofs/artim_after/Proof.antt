@@ -13,6 +13,4 @@ artim-after-spec =
     (tie.spec
     (λ c. search artim-laws)  -- returns
     (λ c κs. search needs)  -- at-requires
-    (λ c. search artim-laws)  -- returns-2
-    (λ c. search artim-laws)  -- returns-3
-    (λ c. search artim-laws))  -- returns-4
+    (λ c. search artim-laws) (λ c. search artim-laws) (λ c. search artim-laws))  -- returns-2, returns-3, returns-4

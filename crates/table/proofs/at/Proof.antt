@@ -9,9 +9,6 @@ pub at-spec : {M : Type 1} → statement M
 at-spec =
     tie.close
     (tie.spec
-    (λ c. search at-laws)  -- returns
-    (λ c. search at-laws)  -- returns-2
-    (λ c κs. search needs)  -- wide-requires
-    (λ c. search needs)  -- sub-place
-    (λ c. search needs)  -- array-read-result
+    (λ c. search at-laws) (λ c. search at-laws)  -- returns, returns-2
+    (λ c κs. search needs) (λ c. search needs) (λ c. search needs)  -- wide-requires, sub-place, array-read-result
     (λ c. search at-laws))  -- returns-3

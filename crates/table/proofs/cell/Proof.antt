@@ -16,6 +16,5 @@ cell-spec =
     (λ c. sym (search outside))  -- returns-2
     (λ c. sym (search outside))  -- returns-3
     (λ c. sym (search outside))  -- returns-4
-    (λ c κs. search needs)  -- place-requires
-    (λ c. search needs)  -- array-read-result
+    (λ c κs. search needs) (λ c. search needs)  -- place-requires, array-read-result
     (λ c. search (needs, cell-at)))  -- returns-5

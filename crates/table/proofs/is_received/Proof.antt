@@ -21,12 +21,6 @@ unfolding isReceived among
 is-received-spec =
     tie.close
     (tie.spec
-    (λ c. search arm)  -- returns
-    (λ c. search arm)  -- returns-2
-    (λ c. search arm)  -- returns-3
-    (λ c. search arm)  -- returns-4
-    (λ c. search arm)  -- returns-5
-    (λ c. search arm)  -- returns-6
-    (λ c. search arm)  -- returns-7
-    (λ c. search arm)  -- returns-8
+    (λ c. search arm) (λ c. search arm) (λ c. search arm) (λ c. search arm) (λ c. search arm)  -- returns, returns-2, returns-3, returns-4, returns-5
+    (λ c. search arm) (λ c. search arm) (λ c. search arm)  -- returns-6, returns-7, returns-8
     (λ c. search other))  -- returns-9

@@ -11,9 +11,6 @@ unfolding nexts actions
 next-state-spec =
     tie.close
     (tie.spec
-    (λ c. search next-laws)  -- returns
-    (λ c. search next-laws)  -- returns-2
-    (λ c. search next-laws)  -- returns-3
-    (λ c. search next-laws)  -- returns-4
+    (λ c. search next-laws) (λ c. search next-laws) (λ c. search next-laws) (λ c. search next-laws)  -- returns, returns-2, returns-3, returns-4
     (λ c κs. search needs)  -- at-requires
     (λ c. search next-laws))  -- returns-5

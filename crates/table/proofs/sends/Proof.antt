@@ -11,7 +11,6 @@ unfolding sendings actions
 sends-spec =
     tie.close
     (tie.spec
-    (λ c. search sends-laws)  -- returns
-    (λ c. search sends-laws)  -- returns-2
+    (λ c. search sends-laws) (λ c. search sends-laws)  -- returns, returns-2
     (λ c κs. search needs)  -- at-requires
     (λ c. search sends-laws))  -- returns-3

@@ -11,8 +11,5 @@ unfolding acGood
 accept-good-spec =
     tie.close
     (tie.spec
-    (λ c. search (needs, deciding))  -- returns
-    (λ c κs. search (needs, deciding))  -- name-ok-requires
-    (λ c. search (needs, deciding))  -- returns-2
-    (λ c κs. search (needs, deciding))  -- answers-ok-requires
-    (λ c. search (needs, deciding)))  -- returns-3
+    (λ c. search (needs, deciding)) (λ c κs. search (needs, deciding)) (λ c. search (needs, deciding))  -- returns, name-ok-requires, returns-2
+    (λ c κs. search (needs, deciding)) (λ c. search (needs, deciding)))  -- answers-ok-requires, returns-3

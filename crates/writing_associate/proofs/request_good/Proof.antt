@@ -11,11 +11,7 @@ unfolding rqGood
 request-good-spec =
     tie.close
     (tie.spec
-    (λ c κs. search (needs, deciding))  -- title-ok-requires
-    (λ c. search (needs, deciding))  -- returns
-    (λ c κs. search (needs, deciding))  -- title-ok-requires-2
-    (λ c. search (needs, deciding))  -- returns-2
-    (λ c κs. search (needs, deciding))  -- name-ok-requires
-    (λ c. search (needs, deciding))  -- returns-3
-    (λ c κs. search (needs, deciding))  -- proposal-ok-requires
-    (λ c. search (needs, deciding)))  -- returns-4
+    (λ c κs. search (needs, deciding)) (λ c. search (needs, deciding))  -- title-ok-requires, returns
+    (λ c κs. search (needs, deciding)) (λ c. search (needs, deciding))  -- title-ok-requires-2, returns-2
+    (λ c κs. search (needs, deciding)) (λ c. search (needs, deciding))  -- name-ok-requires, returns-3
+    (λ c κs. search (needs, deciding)) (λ c. search (needs, deciding)))  -- proposal-ok-requires, returns-4

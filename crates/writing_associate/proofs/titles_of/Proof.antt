@@ -8,8 +8,5 @@ pub titles-of-spec : {M : Type 1} → statement M
 titles-of-spec =
     tie.close
     (tie.spec
-    (λ c. search titles-laws)  -- slice-aggregate-put
-    (λ c κs. search titles-laws)  -- put-requires
-    (λ c. search titles-laws)  -- slice-aggregate-put-2
-    (λ c κs. search titles-laws)  -- put-requires-2
-    (λ c. search titles-laws))  -- returns
+    (λ c. search titles-laws) (λ c κs. search titles-laws) (λ c. search titles-laws)  -- slice-aggregate-put, put-requires, slice-aggregate-put-2
+    (λ c κs. search titles-laws) (λ c. search titles-laws))  -- put-requires-2, returns

@@ -12,8 +12,5 @@ unfolding acForm acPdu pduOf
 write-accept-spec =
     tie.close
     (tie.spec
-    (λ c κs. search ac-laws)  -- accept-good-requires
-    (λ c. search ac-laws)  -- returns
-    (λ c κs. search ac-laws)  -- write-pdu-requires
-    (λ c. search ac-laws)  -- same-length
-    (λ c. search ac-laws))  -- returns-2
+    (λ c κs. search ac-laws) (λ c. search ac-laws) (λ c κs. search ac-laws)  -- accept-good-requires, returns, write-pdu-requires
+    (λ c. search ac-laws) (λ c. search ac-laws))  -- same-length, returns-2

@@ -10,10 +10,6 @@ unfolding rqForm
 write-request-spec =
     tie.close
     (tie.spec
-    (λ c κs. search rq-laws)  -- request-good-requires
-    (λ c. search rq-laws)  -- returns
-    (λ c κs. search rq-laws)  -- titles-of-requires
-    (λ c. search rq-laws)  -- slice-aggregate-write-pdu
-    (λ c κs. search rq-laws)  -- write-pdu-requires
-    (λ c. search rq-laws)  -- same-length
+    (λ c κs. search rq-laws) (λ c. search rq-laws) (λ c κs. search rq-laws)  -- request-good-requires, returns, titles-of-requires
+    (λ c. search rq-laws) (λ c κs. search rq-laws) (λ c. search rq-laws)  -- slice-aggregate-write-pdu, write-pdu-requires, same-length
     (λ c. search rq-laws))  -- returns-2

@@ -9,14 +9,7 @@ unfolding good21H
 answered-ok-spec =
     tie.close
     (tie.spec
-    (λ c. search bodied)  -- returns
-    (λ c. search bodied)  -- shared-slice-read-if2
-    (λ c. search bodied)  -- returns-2
-    (λ c. search bodied)  -- shared-slice-read-if3
-    (λ c. search bodied)  -- returns-3
-    (λ c. search bodied)  -- shared-slice-read-transfer-item-ok
-    (λ c. search bodied)  -- sub-transfer-item-ok
-    (λ c. search bodied)  -- part-transfer-item-ok-start
-    (λ c. search bodied)  -- part-transfer-item-ok-end
-    (λ c κs. search bodied)  -- transfer-item-ok-requires
-    (λ c. search bodied))  -- returns-4
+    (λ c. search bodied) (λ c. search bodied) (λ c. search bodied)  -- returns, shared-slice-read-if2, returns-2
+    (λ c. search bodied) (λ c. search bodied) (λ c. search bodied)  -- shared-slice-read-if3, returns-3, shared-slice-read-transfer-item-ok
+    (λ c. search bodied) (λ c. search bodied) (λ c. search bodied)  -- sub-transfer-item-ok, part-transfer-item-ok-start, part-transfer-item-ok-end
+    (λ c κs. search bodied) (λ c. search bodied))  -- transfer-item-ok-requires, returns-4

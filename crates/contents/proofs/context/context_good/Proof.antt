@@ -9,7 +9,5 @@ unfolding contextGood
 context-good-spec =
     tie.close
     (tie.spec
-    (λ c κs. search decide)  -- proposed-ok-requires
-    (λ c. search decide)  -- returns
-    (λ c κs. search decide)  -- answered-ok-requires
+    (λ c κs. search decide) (λ c. search decide) (λ c κs. search decide)  -- proposed-ok-requires, returns, answered-ok-requires
     (λ c. search decide))  -- returns-2

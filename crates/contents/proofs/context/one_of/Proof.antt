@@ -9,7 +9,5 @@ unfolding one
 one-of-spec =
     tie.close
     (tie.spec
-    (λ c κs. search counting)  -- fills-requires
-    (λ c. search counting)  -- returns
-    (λ c κs. search counting)  -- count-of-requires
+    (λ c κs. search counting) (λ c. search counting) (λ c κs. search counting)  -- fills-requires, returns, count-of-requires
     (λ c. search counting))  -- returns-2

@@ -9,11 +9,6 @@ unfolding good20H
 proposed-ok-spec =
     tie.close
     (tie.spec
-    (λ c. search bodied)  -- returns
-    (λ c. search bodied)  -- shared-slice-read-id
-    (λ c. search bodied)  -- returns-2
-    (λ c. search bodied)  -- sub-subs-ok
-    (λ c. search bodied)  -- part-subs-ok-start
-    (λ c. search bodied)  -- part-subs-ok-end
-    (λ c κs. search bodied)  -- subs-ok-requires
+    (λ c. search bodied) (λ c. search bodied) (λ c. search bodied) (λ c. search bodied)  -- returns, shared-slice-read-id, returns-2, sub-subs-ok
+    (λ c. search bodied) (λ c. search bodied) (λ c κs. search bodied)  -- part-subs-ok-start, part-subs-ok-end, subs-ok-requires
     (λ c. search bodied))  -- returns-3

@@ -9,8 +9,5 @@ unfolding subGood
 sub-good-spec =
     tie.close
     (tie.spec
-    (λ c κs. search decide)  -- name-ok-requires
-    (λ c. search decide)  -- returns
-    (λ c κs. search decide)  -- name-ok-requires-2
-    (λ c. search decide)  -- returns-2
-    (λ c. search decide))  -- returns-3
+    (λ c κs. search decide) (λ c. search decide) (λ c κs. search decide)  -- name-ok-requires, returns, name-ok-requires-2
+    (λ c. search decide) (λ c. search decide))  -- returns-2, returns-3

@@ -22,17 +22,8 @@ subs-ok-spec =
     (tie.spec
     Inv-loop
     μ-loop
-    (λ c. search in-order)  -- loop-holds
-    (λ c κs. search in-order)  -- item-end-requires
-    (λ c. search in-order)  -- returns
-    (λ c. search in-order)  -- shared-slice-read-t
-    (λ c. search in-order)  -- add-a
-    (λ c. search in-order)  -- sub-sub-good
-    (λ c. search in-order)  -- part-sub-good-start
-    (λ c. search in-order)  -- part-sub-good-end
-    (λ c κs. search in-order)  -- sub-good-requires
-    (λ c. search in-order)  -- returns-2
-    (λ c κs. search in-order)  -- next-requires
-    (λ c. search in-order)  -- loop-less
-    (λ c. search in-order)  -- loop-again
+    (λ c. search in-order) (λ c κs. search in-order) (λ c. search in-order)  -- loop-holds, item-end-requires, returns
+    (λ c. search in-order) (λ c. search in-order) (λ c. search in-order)  -- shared-slice-read-t, add-a, sub-sub-good
+    (λ c. search in-order) (λ c. search in-order) (λ c κs. search in-order)  -- part-sub-good-start, part-sub-good-end, sub-good-requires
+    (λ c. search in-order) (λ c κs. search in-order) (λ c. search in-order) (λ c. search in-order)  -- returns-2, next-requires, loop-less, loop-again
     (λ c. search in-order))  -- returns-3

@@ -9,8 +9,5 @@ unfolding transferItemOk
 transfer-item-ok-spec =
     tie.close
     (tie.spec
-    (λ c κs. search counting)  -- one-of-requires
-    (λ c. search counting)  -- returns
-    (λ c κs. search counting)  -- first-of-requires
-    (λ c κs. search counting)  -- name-ok-requires
-    (λ c. search counting))  -- returns-2
+    (λ c κs. search counting) (λ c. search counting) (λ c κs. search counting)  -- one-of-requires, returns, first-of-requires
+    (λ c κs. search counting) (λ c. search counting))  -- name-ok-requires, returns-2

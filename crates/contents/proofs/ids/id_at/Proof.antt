@@ -7,11 +7,6 @@ pub id-at-spec : {M : Type 1} → statement M
 id-at-spec =
     tie.close
     (tie.spec
-    (λ c. search id-laws)  -- returns
-    (λ c. search id-laws)  -- sub-if2
-    (λ c. search id-laws)  -- returns-2
-    (λ c. search id-laws)  -- add-if3
-    (λ c. search id-laws)  -- returns-3
-    (λ c. search id-laws)  -- add-result
-    (λ c. search id-laws)  -- shared-slice-read-result
+    (λ c. search id-laws) (λ c. search id-laws) (λ c. search id-laws) (λ c. search id-laws)  -- returns, sub-if2, returns-2, add-if3
+    (λ c. search id-laws) (λ c. search id-laws) (λ c. search id-laws)  -- returns-3, add-result, shared-slice-read-result
     (λ c. search id-laws))  -- returns-4

@@ -25,24 +25,9 @@ ids-differ-spec =
     μ-loop
     Inv-pairs
     μ-pairs
-    (λ c. search pairing)  -- pairs-holds
-    (λ c κs. search pairing)  -- item-end-requires
-    (λ c. search pairing)  -- shared-slice-read-if2
-    (λ c κs. search pairing)  -- id-at-requires
-    (λ c. search pairing)  -- loop-holds
-    (λ c κs. search pairing)  -- item-end-requires-2
-    (λ c. search pairing)  -- shared-slice-read-if4
-    (λ c κs. search pairing)  -- id-at-requires-2
-    (λ c. search pairing)  -- loop-less
-    (λ c. search pairing)  -- loop-again
-    (λ c. search pairing)  -- loop-less-2
-    (λ c. search pairing)  -- loop-again-2
-    (λ c. search pairing)  -- pairs-less
-    (λ c. search pairing)  -- pairs-again
-    (λ c. search pairing)  -- pairs-less-2
-    (λ c. search pairing)  -- pairs-again-2
-    (λ c. search pairing)  -- pairs-less-3
-    (λ c. search pairing)  -- pairs-again-3
-    (λ c. search pairing)  -- returns
-    (λ c. search pairing)  -- returns-2
-    (λ c. search pairing))  -- returns-3
+    (λ c. search pairing) (λ c κs. search pairing) (λ c. search pairing)  -- pairs-holds, item-end-requires, shared-slice-read-if2
+    (λ c κs. search pairing) (λ c. search pairing) (λ c κs. search pairing)  -- id-at-requires, loop-holds, item-end-requires-2
+    (λ c. search pairing) (λ c κs. search pairing) (λ c. search pairing)  -- shared-slice-read-if4, id-at-requires-2, loop-less
+    (λ c. search pairing) (λ c. search pairing) (λ c. search pairing) (λ c. search pairing)  -- loop-again, loop-less-2, loop-again-2, pairs-less
+    (λ c. search pairing) (λ c. search pairing) (λ c. search pairing) (λ c. search pairing)  -- pairs-again, pairs-less-2, pairs-again-2, pairs-less-3
+    (λ c. search pairing) (λ c. search pairing) (λ c. search pairing) (λ c. search pairing))  -- pairs-again-3, returns, returns-2, returns-3

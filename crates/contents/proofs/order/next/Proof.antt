@@ -9,11 +9,5 @@ unfolding next
 next-spec =
     tie.close
     (tie.spec
-    (λ c. search follow)  -- returns
-    (λ c. search follow)  -- returns-2
-    (λ c. search follow)  -- returns-3
-    (λ c. search follow)  -- returns-4
-    (λ c. search follow)  -- returns-5
-    (λ c. search follow)  -- returns-6
-    (λ c. search follow)  -- returns-7
-    (λ c. search follow))  -- returns-8
+    (λ c. search follow) (λ c. search follow) (λ c. search follow) (λ c. search follow)  -- returns, returns-2, returns-3, returns-4
+    (λ c. search follow) (λ c. search follow) (λ c. search follow) (λ c. search follow))  -- returns-5, returns-6, returns-7, returns-8

@@ -9,10 +9,5 @@ unfolding topGood
 top-good-spec =
     tie.close
     (tie.spec
-    (λ c κs. search decide)  -- name-ok-requires
-    (λ c. search decide)  -- returns
-    (λ c κs. search decide)  -- context-good-requires
-    (λ c. search decide)  -- returns-2
-    (λ c κs. search decide)  -- user-ok-requires
-    (λ c. search decide)  -- returns-3
-    (λ c. search decide))  -- returns-4
+    (λ c κs. search decide) (λ c. search decide) (λ c κs. search decide)  -- name-ok-requires, returns, context-good-requires
+    (λ c. search decide) (λ c κs. search decide) (λ c. search decide) (λ c. search decide))  -- returns-2, user-ok-requires, returns-3, returns-4

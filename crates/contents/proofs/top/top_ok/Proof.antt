@@ -22,17 +22,8 @@ top-ok-spec =
     (tie.spec
     Inv-loop
     μ-loop
-    (λ c. search in-order)  -- loop-holds
-    (λ c κs. search in-order)  -- item-end-requires
-    (λ c. search in-order)  -- returns
-    (λ c. search in-order)  -- shared-slice-read-t
-    (λ c. search in-order)  -- add-a
-    (λ c. search in-order)  -- sub-top-good
-    (λ c. search in-order)  -- part-top-good-start
-    (λ c. search in-order)  -- part-top-good-end
-    (λ c κs. search in-order)  -- top-good-requires
-    (λ c. search in-order)  -- returns-2
-    (λ c κs. search in-order)  -- next-requires
-    (λ c. search in-order)  -- loop-less
-    (λ c. search in-order)  -- loop-again
+    (λ c. search in-order) (λ c κs. search in-order) (λ c. search in-order)  -- loop-holds, item-end-requires, returns
+    (λ c. search in-order) (λ c. search in-order) (λ c. search in-order)  -- shared-slice-read-t, add-a, sub-top-good
+    (λ c. search in-order) (λ c. search in-order) (λ c κs. search in-order)  -- part-top-good-start, part-top-good-end, top-good-requires
+    (λ c. search in-order) (λ c κs. search in-order) (λ c. search in-order) (λ c. search in-order)  -- returns-2, next-requires, loop-less, loop-again
     (λ c. search in-order))  -- returns-3

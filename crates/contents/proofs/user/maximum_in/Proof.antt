@@ -7,7 +7,5 @@ pub maximum-in-spec : {M : Type 1} → statement M
 maximum-in-spec =
     tie.close
     (tie.spec
-    (λ c κs. search maximum-laws)  -- first-of-requires
-    (λ c κs. search maximum-laws)  -- first-of-requires-2
-    (λ c κs. search maximum-laws)  -- be32-at-requires
-    (λ c. search maximum-laws))  -- returns
+    (λ c κs. search maximum-laws) (λ c κs. search maximum-laws)  -- first-of-requires, first-of-requires-2
+    (λ c κs. search maximum-laws) (λ c. search maximum-laws))  -- be32-at-requires, returns

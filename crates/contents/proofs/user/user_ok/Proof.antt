@@ -9,7 +9,5 @@ unfolding good50H
 user-ok-spec =
     tie.close
     (tie.spec
-    (λ c κs. search counting)  -- one-of-requires
-    (λ c. search counting)  -- returns
-    (λ c κs. search counting)  -- first-of-requires
+    (λ c κs. search counting) (λ c. search counting) (λ c κs. search counting)  -- one-of-requires, returns, first-of-requires
     (λ c. search counting))  -- returns-2

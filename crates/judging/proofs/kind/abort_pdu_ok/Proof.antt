@@ -9,8 +9,5 @@ unfolding abortPduOk
 abort-pdu-ok-spec =
     tie.close
     (tie.spec
-    (λ c. search kinds)  -- returns
-    (λ c. search kinds)  -- shared-slice-read-abort-ok
-    (λ c. search kinds)  -- shared-slice-read-abort-ok-2
-    (λ c κs. search kinds)  -- abort-ok-requires
-    (λ c. search kinds))  -- returns-2
+    (λ c. search kinds) (λ c. search kinds) (λ c. search kinds)  -- returns, shared-slice-read-abort-ok, shared-slice-read-abort-ok-2
+    (λ c κs. search kinds) (λ c. search kinds))  -- abort-ok-requires, returns-2

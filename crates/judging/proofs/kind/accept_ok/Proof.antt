@@ -9,11 +9,6 @@ unfolding acceptOk
 accept-ok-spec =
     tie.close
     (tie.spec
-    (λ c. search kinds)  -- returns
-    (λ c κs. search kinds)  -- be16-at-requires
-    (λ c. search kinds)  -- returns-2
-    (λ c. search kinds)  -- sub-items-ok
-    (λ c. search kinds)  -- part-items-ok-start
-    (λ c. search kinds)  -- part-items-ok-end
-    (λ c κs. search kinds)  -- items-ok-requires
+    (λ c. search kinds) (λ c κs. search kinds) (λ c. search kinds) (λ c. search kinds)  -- returns, be16-at-requires, returns-2, sub-items-ok
+    (λ c. search kinds) (λ c. search kinds) (λ c κs. search kinds)  -- part-items-ok-start, part-items-ok-end, items-ok-requires
     (λ c. search kinds))  -- returns-3

@@ -7,7 +7,5 @@ pub acceptable-spec : {M : Type 1} → statement M
 acceptable-spec =
     tie.close
     (tie.spec
-    (λ c κs. search asked-laws)  -- kind-of-requires
-    (λ c. search asked-laws)  -- returns
-    (λ c κs. search asked-laws)  -- be16-at-requires
+    (λ c κs. search asked-laws) (λ c. search asked-laws) (λ c κs. search asked-laws)  -- kind-of-requires, returns, be16-at-requires
     (λ c. search asked-laws))  -- returns-2

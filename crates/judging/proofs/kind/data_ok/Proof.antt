@@ -7,8 +7,5 @@ pub data-ok-spec : {M : Type 1} → statement M
 data-ok-spec =
     tie.close
     (tie.spec
-    (λ c. search kinds)  -- sub-pdvs-ok
-    (λ c. search kinds)  -- part-pdvs-ok-start
-    (λ c. search kinds)  -- part-pdvs-ok-end
-    (λ c κs. search kinds)  -- pdvs-ok-requires
-    (λ c. search kinds))  -- returns
+    (λ c. search kinds) (λ c. search kinds) (λ c. search kinds)  -- sub-pdvs-ok, part-pdvs-ok-start, part-pdvs-ok-end
+    (λ c κs. search kinds) (λ c. search kinds))  -- pdvs-ok-requires, returns

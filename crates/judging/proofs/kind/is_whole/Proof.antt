@@ -7,9 +7,5 @@ pub is-whole-spec : {M : Type 1} → statement M
 is-whole-spec =
     tie.close
     (tie.spec
-    (λ c. search whole-laws)  -- returns
-    (λ c κs. search whole-laws)  -- be32-at-requires
-    (λ c. search whole-laws)  -- cast-n
-    (λ c. search whole-laws)  -- sub-if2
-    (λ c. search whole-laws)  -- returns-2
-    (λ c. search whole-laws))  -- returns-3
+    (λ c. search whole-laws) (λ c κs. search whole-laws) (λ c. search whole-laws)  -- returns, be32-at-requires, cast-n
+    (λ c. search whole-laws) (λ c. search whole-laws) (λ c. search whole-laws))  -- sub-if2, returns-2, returns-3

@@ -9,6 +9,4 @@ unfolding kindAs
 kind-as-spec =
     tie.close
     (tie.spec
-    (λ c κs. search decide)  -- valid-as-requires
-    (λ c. search decide)  -- returns
-    (λ c. search decide))  -- returns-2
+    (λ c κs. search decide) (λ c. search decide) (λ c. search decide))  -- valid-as-requires, returns, returns-2

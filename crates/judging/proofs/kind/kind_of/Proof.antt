@@ -7,8 +7,5 @@ pub kind-of-spec : {M : Type 1} → statement M
 kind-of-spec =
     tie.close
     (tie.spec
-    (λ c κs. search kind-laws)  -- is-whole-requires
-    (λ c. search kind-laws)  -- returns
-    (λ c. search kind-laws)  -- shared-slice-read-kind-as
-    (λ c κs. search kind-laws)  -- kind-as-requires
-    (λ c. search kind-laws))  -- returns-2
+    (λ c κs. search kind-laws) (λ c. search kind-laws) (λ c. search kind-laws)  -- is-whole-requires, returns, shared-slice-read-kind-as
+    (λ c κs. search kind-laws) (λ c. search kind-laws))  -- kind-as-requires, returns-2

@@ -7,15 +7,7 @@ pub maximum-of-spec : {M : Type 1} → statement M
 maximum-of-spec =
     tie.close
     (tie.spec
-    (λ c κs. search asked-laws)  -- kind-of-requires
-    (λ c. search asked-laws)  -- sub-maximum-in
-    (λ c. search asked-laws)  -- part-maximum-in-start
-    (λ c. search asked-laws)  -- part-maximum-in-end
-    (λ c κs. search asked-laws)  -- maximum-in-requires
-    (λ c. search asked-laws)  -- returns
-    (λ c. search asked-laws)  -- sub-maximum-in-2
-    (λ c. search asked-laws)  -- part-maximum-in-start-2
-    (λ c. search asked-laws)  -- part-maximum-in-end-2
-    (λ c κs. search asked-laws)  -- maximum-in-requires-2
-    (λ c. search asked-laws)  -- returns-2
-    (λ c. search asked-laws))  -- returns-3
+    (λ c κs. search asked-laws) (λ c. search asked-laws) (λ c. search asked-laws)  -- kind-of-requires, sub-maximum-in, part-maximum-in-start
+    (λ c. search asked-laws) (λ c κs. search asked-laws) (λ c. search asked-laws)  -- part-maximum-in-end, maximum-in-requires, returns
+    (λ c. search asked-laws) (λ c. search asked-laws) (λ c. search asked-laws)  -- sub-maximum-in-2, part-maximum-in-start-2, part-maximum-in-end-2
+    (λ c κs. search asked-laws) (λ c. search asked-laws) (λ c. search asked-laws))  -- maximum-in-requires-2, returns-2, returns-3

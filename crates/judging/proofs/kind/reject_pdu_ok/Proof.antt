@@ -9,9 +9,5 @@ unfolding rejectPduOk
 reject-pdu-ok-spec =
     tie.close
     (tie.spec
-    (λ c. search kinds)  -- returns
-    (λ c. search kinds)  -- shared-slice-read-reject-ok
-    (λ c. search kinds)  -- shared-slice-read-reject-ok-2
-    (λ c. search kinds)  -- shared-slice-read-reject-ok-3
-    (λ c κs. search kinds)  -- reject-ok-requires
-    (λ c. search kinds))  -- returns-2
+    (λ c. search kinds) (λ c. search kinds) (λ c. search kinds)  -- returns, shared-slice-read-reject-ok, shared-slice-read-reject-ok-2
+    (λ c. search kinds) (λ c κs. search kinds) (λ c. search kinds))  -- shared-slice-read-reject-ok-3, reject-ok-requires, returns-2

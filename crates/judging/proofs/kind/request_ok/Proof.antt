@@ -9,19 +9,8 @@ unfolding requestOk
 request-ok-spec =
     tie.close
     (tie.spec
-    (λ c. search kinds)  -- returns
-    (λ c. search kinds)  -- sub-title-ok
-    (λ c. search kinds)  -- part-title-ok-start
-    (λ c. search kinds)  -- part-title-ok-end
-    (λ c κs. search kinds)  -- title-ok-requires
-    (λ c. search kinds)  -- returns-2
-    (λ c. search kinds)  -- sub-title-ok-2
-    (λ c. search kinds)  -- part-title-ok-start-2
-    (λ c. search kinds)  -- part-title-ok-end-2
-    (λ c κs. search kinds)  -- title-ok-requires-2
-    (λ c. search kinds)  -- returns-3
-    (λ c. search kinds)  -- sub-items-ok
-    (λ c. search kinds)  -- part-items-ok-start
-    (λ c. search kinds)  -- part-items-ok-end
-    (λ c κs. search kinds)  -- items-ok-requires
-    (λ c. search kinds))  -- returns-4
+    (λ c. search kinds) (λ c. search kinds) (λ c. search kinds) (λ c. search kinds)  -- returns, sub-title-ok, part-title-ok-start, part-title-ok-end
+    (λ c κs. search kinds) (λ c. search kinds) (λ c. search kinds)  -- title-ok-requires, returns-2, sub-title-ok-2
+    (λ c. search kinds) (λ c. search kinds) (λ c κs. search kinds)  -- part-title-ok-start-2, part-title-ok-end-2, title-ok-requires-2
+    (λ c. search kinds) (λ c. search kinds) (λ c. search kinds) (λ c. search kinds)  -- returns-3, sub-items-ok, part-items-ok-start, part-items-ok-end
+    (λ c κs. search kinds) (λ c. search kinds))  -- items-ok-requires, returns-4

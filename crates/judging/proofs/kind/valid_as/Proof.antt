@@ -9,18 +9,8 @@ unfolding validAs
 valid-as-spec =
     tie.close
     (tie.spec
-    (λ c κs. search decide)  -- request-ok-requires
-    (λ c. search decide)  -- returns
-    (λ c κs. search decide)  -- accept-ok-requires
-    (λ c. search decide)  -- returns-2
-    (λ c κs. search decide)  -- reject-pdu-ok-requires
-    (λ c. search decide)  -- returns-3
-    (λ c κs. search decide)  -- data-ok-requires
-    (λ c. search decide)  -- returns-4
-    (λ c κs. search decide)  -- release-ok-requires
-    (λ c. search decide)  -- returns-5
-    (λ c κs. search decide)  -- release-ok-requires-2
-    (λ c. search decide)  -- returns-6
-    (λ c κs. search decide)  -- abort-pdu-ok-requires
-    (λ c. search decide)  -- returns-7
-    (λ c. search decide))  -- returns-8
+    (λ c κs. search decide) (λ c. search decide) (λ c κs. search decide)  -- request-ok-requires, returns, accept-ok-requires
+    (λ c. search decide) (λ c κs. search decide) (λ c. search decide)  -- returns-2, reject-pdu-ok-requires, returns-3
+    (λ c κs. search decide) (λ c. search decide) (λ c κs. search decide)  -- data-ok-requires, returns-4, release-ok-requires
+    (λ c. search decide) (λ c κs. search decide) (λ c. search decide)  -- returns-5, release-ok-requires-2, returns-6
+    (λ c κs. search decide) (λ c. search decide) (λ c. search decide))  -- abort-pdu-ok-requires, returns-7, returns-8

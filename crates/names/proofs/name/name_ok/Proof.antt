@@ -21,18 +21,8 @@ name-ok-spec =
     (tie.spec
     Inv-loop
     μ-loop
-    (λ c. search name-laws)  -- returns
-    (λ c. search name-laws)  -- loop-holds
-    (λ c. search name-laws)  -- shared-slice-read-next
-    (λ c κs. search name-laws)  -- next-requires
-    (λ c. search name-laws)  -- add-i
-    (λ c. search name-laws)  -- loop-less
-    (λ c. search name-laws)  -- loop-again
-    (λ c. search name-laws)  -- enum-told
-    (λ c. search name-laws)  -- enum-told-2
-    (λ c. search name-laws)  -- enum-told-3
-    (λ c. search name-laws)  -- enum-told-4
-    (λ c. search name-laws)  -- returns-2
-    (λ c. search name-laws)  -- returns-3
-    (λ c. search name-laws)  -- returns-4
+    (λ c. search name-laws) (λ c. search name-laws) (λ c. search name-laws)  -- returns, loop-holds, shared-slice-read-next
+    (λ c κs. search name-laws) (λ c. search name-laws) (λ c. search name-laws) (λ c. search name-laws)  -- next-requires, add-i, loop-less, loop-again
+    (λ c. search name-laws) (λ c. search name-laws) (λ c. search name-laws)  -- enum-told, enum-told-2, enum-told-3
+    (λ c. search name-laws) (λ c. search name-laws) (λ c. search name-laws) (λ c. search name-laws)  -- enum-told-4, returns-2, returns-3, returns-4
     (λ c. search name-laws))  -- returns-5

@@ -8,22 +8,9 @@ pub next-spec : {M : Type 1} → statement M
 next-spec =
     tie.close
     (tie.spec
-    (λ c. search next-laws)  -- enum-told
-    (λ c. search next-laws)  -- enum-told-2
-    (λ c. search next-laws)  -- enum-told-3
-    (λ c. search next-laws)  -- enum-told-4
-    (λ c. search next-laws)  -- returns
-    (λ c. search next-laws)  -- returns-2
-    (λ c. search next-laws)  -- returns-3
-    (λ c. search next-laws)  -- returns-4
-    (λ c. search next-laws)  -- returns-5
-    (λ c. search next-laws)  -- returns-6
-    (λ c. search next-laws)  -- enum-told-5
-    (λ c. search next-laws)  -- enum-told-6
-    (λ c. search next-laws)  -- enum-told-7
-    (λ c. search next-laws)  -- enum-told-8
-    (λ c. search next-laws)  -- returns-7
-    (λ c. search next-laws)  -- returns-8
-    (λ c. search next-laws)  -- returns-9
-    (λ c. search next-laws)  -- returns-10
+    (λ c. search next-laws) (λ c. search next-laws) (λ c. search next-laws)  -- enum-told, enum-told-2, enum-told-3
+    (λ c. search next-laws) (λ c. search next-laws) (λ c. search next-laws) (λ c. search next-laws)  -- enum-told-4, returns, returns-2, returns-3
+    (λ c. search next-laws) (λ c. search next-laws) (λ c. search next-laws) (λ c. search next-laws)  -- returns-4, returns-5, returns-6, enum-told-5
+    (λ c. search next-laws) (λ c. search next-laws) (λ c. search next-laws)  -- enum-told-6, enum-told-7, enum-told-8
+    (λ c. search next-laws) (λ c. search next-laws) (λ c. search next-laws) (λ c. search next-laws)  -- returns-7, returns-8, returns-9, returns-10
     (λ c. search next-laws))  -- returns-11

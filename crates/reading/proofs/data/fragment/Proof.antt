@@ -7,9 +7,5 @@ pub fragment-spec : {M : Type 1} → statement M
 fragment-spec =
     tie.close
     (tie.spec
-    (λ c κs. search part-laws)  -- read-data-requires
-    (λ c. search part-laws)  -- add-end
-    (λ c. search part-laws)  -- sub-result
-    (λ c. search part-laws)  -- part-result-start
-    (λ c. search part-laws)  -- part-result-end
-    (λ c. search part-laws))  -- returns
+    (λ c κs. search part-laws) (λ c. search part-laws) (λ c. search part-laws)  -- read-data-requires, add-end, sub-result
+    (λ c. search part-laws) (λ c. search part-laws) (λ c. search part-laws))  -- part-result-start, part-result-end, returns

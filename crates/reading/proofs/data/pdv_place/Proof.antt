@@ -16,10 +16,5 @@ pdv-place-spec =
     (tie.spec
     Inv-loop
     μ-loop
-    (λ c. search reach-laws)  -- loop-holds
-    (λ c κs. search reach-laws)  -- pdv-end-requires
-    (λ c. search reach-laws)  -- returns
-    (λ c. search reach-laws)  -- add-k
-    (λ c. search reach-laws)  -- loop-less
-    (λ c. search reach-laws)  -- loop-again
-    (λ c. search reach-laws))  -- returns-2
+    (λ c. search reach-laws) (λ c κs. search reach-laws) (λ c. search reach-laws)  -- loop-holds, pdv-end-requires, returns
+    (λ c. search reach-laws) (λ c. search reach-laws) (λ c. search reach-laws) (λ c. search reach-laws))  -- add-k, loop-less, loop-again, returns-2

@@ -7,20 +7,9 @@ pub read-data-spec : {M : Type 1} → statement M
 read-data-spec =
     tie.close
     (tie.spec
-    (λ c κs. search data-laws)  -- kind-of-requires
-    (λ c. search data-laws)  -- returns
-    (λ c. search data-laws)  -- sub-s
-    (λ c. search data-laws)  -- part-s-start
-    (λ c. search data-laws)  -- part-s-end
-    (λ c κs. search data-laws)  -- pdv-place-requires
-    (λ c κs. search data-laws)  -- pdv-end-requires
-    (λ c. search data-laws)  -- returns-2
-    (λ c. search data-laws)  -- add-t9
-    (λ c. search data-laws)  -- shared-slice-read-t6
-    (λ c. search data-laws)  -- add-t12
-    (λ c. search data-laws)  -- shared-slice-read-t14
-    (λ c. search data-laws)  -- add-t15
-    (λ c. search data-laws)  -- add-t16
-    (λ c. search data-laws)  -- add-t17
-    (λ c. search data-laws)  -- sub-t18
+    (λ c κs. search data-laws) (λ c. search data-laws) (λ c. search data-laws)  -- kind-of-requires, returns, sub-s
+    (λ c. search data-laws) (λ c. search data-laws) (λ c κs. search data-laws)  -- part-s-start, part-s-end, pdv-place-requires
+    (λ c κs. search data-laws) (λ c. search data-laws) (λ c. search data-laws)  -- pdv-end-requires, returns-2, add-t9
+    (λ c. search data-laws) (λ c. search data-laws) (λ c. search data-laws)  -- shared-slice-read-t6, add-t12, shared-slice-read-t14
+    (λ c. search data-laws) (λ c. search data-laws) (λ c. search data-laws) (λ c. search data-laws)  -- add-t15, add-t16, add-t17, sub-t18
     (λ c. search data-laws))  -- returns-3

@@ -7,11 +7,6 @@ pub behind-four-spec : {M : Type 1} → statement M
 behind-four-spec =
     tie.close
     (tie.spec
-    (λ c. search four-laws)  -- sub-result
-    (λ c. search four-laws)  -- part-result-start
-    (λ c. search four-laws)  -- part-result-end
-    (λ c. search four-laws)  -- returns
-    (λ c. search four-laws)  -- sub-result-2
-    (λ c. search four-laws)  -- part-result-start-2
-    (λ c. search four-laws)  -- part-result-end-2
-    (λ c. search four-laws))  -- returns-2
+    (λ c. search four-laws) (λ c. search four-laws) (λ c. search four-laws)  -- sub-result, part-result-start, part-result-end
+    (λ c. search four-laws) (λ c. search four-laws) (λ c. search four-laws)  -- returns, sub-result-2, part-result-start-2
+    (λ c. search four-laws) (λ c. search four-laws))  -- part-result-end-2, returns-2

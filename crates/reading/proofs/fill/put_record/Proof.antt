@@ -7,8 +7,5 @@ pub put-record-spec : {M : Type 1} → statement M
 put-record-spec =
     tie.close
     (tie.spec
-    (λ c κs. search record-laws)  -- record-of-requires
-    (λ c. search record-laws)  -- slice-aggregate-put
-    (λ c κs. search record-laws)  -- put-requires
-    (λ c. search record-laws)  -- same-length
-    (λ c. search record-laws))  -- returns
+    (λ c κs. search record-laws) (λ c. search record-laws) (λ c κs. search record-laws)  -- record-of-requires, slice-aggregate-put, put-requires
+    (λ c. search record-laws) (λ c. search record-laws))  -- same-length, returns

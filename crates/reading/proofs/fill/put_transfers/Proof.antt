@@ -18,19 +18,9 @@ put-transfers-spec =
     (tie.spec
     Inv-loop
     μ-loop
-    (λ c. search fill-laws)  -- loop-holds
-    (λ c κs. search fill-laws)  -- item-end-requires
-    (λ c. search fill-laws)  -- same-length
-    (λ c. search fill-laws)  -- returns
-    (λ c. search fill-laws)  -- shared-slice-read-if2
-    (λ c. search fill-laws)  -- add-b
-    (λ c. search fill-laws)  -- sub-put-record
-    (λ c. search fill-laws)  -- part-put-record-start
-    (λ c. search fill-laws)  -- part-put-record-end
-    (λ c κs. search fill-laws)  -- put-record-requires
-    (λ c. search fill-laws)  -- loop-less
-    (λ c. search fill-laws)  -- loop-again
-    (λ c. search fill-laws)  -- loop-less-2
-    (λ c. search fill-laws)  -- loop-again-2
-    (λ c. search fill-laws)  -- same-length-2
+    (λ c. search fill-laws) (λ c κs. search fill-laws) (λ c. search fill-laws)  -- loop-holds, item-end-requires, same-length
+    (λ c. search fill-laws) (λ c. search fill-laws) (λ c. search fill-laws)  -- returns, shared-slice-read-if2, add-b
+    (λ c. search fill-laws) (λ c. search fill-laws) (λ c. search fill-laws)  -- sub-put-record, part-put-record-start, part-put-record-end
+    (λ c κs. search fill-laws) (λ c. search fill-laws) (λ c. search fill-laws)  -- put-record-requires, loop-less, loop-again
+    (λ c. search fill-laws) (λ c. search fill-laws) (λ c. search fill-laws)  -- loop-less-2, loop-again-2, same-length-2
     (λ c. search fill-laws))  -- returns-2

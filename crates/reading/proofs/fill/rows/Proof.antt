@@ -17,18 +17,8 @@ rows-spec =
     (tie.spec
     Inv-loop
     μ-loop
-    (λ c. search rows-laws)  -- loop-holds
-    (λ c κs. search rows-laws)  -- item-end-requires
-    (λ c. search rows-laws)  -- returns
-    (λ c. search rows-laws)  -- shared-slice-read-if2
-    (λ c. search rows-laws)  -- add-a
-    (λ c. search rows-laws)  -- sub-rows-in
-    (λ c. search rows-laws)  -- part-rows-in-start
-    (λ c. search rows-laws)  -- part-rows-in-end
-    (λ c κs. search rows-laws)  -- rows-in-requires
-    (λ c. search rows-laws)  -- add-n
-    (λ c. search rows-laws)  -- loop-less
-    (λ c. search rows-laws)  -- loop-again
-    (λ c. search rows-laws)  -- loop-less-2
-    (λ c. search rows-laws)  -- loop-again-2
-    (λ c. search rows-laws))  -- returns-2
+    (λ c. search rows-laws) (λ c κs. search rows-laws) (λ c. search rows-laws)  -- loop-holds, item-end-requires, returns
+    (λ c. search rows-laws) (λ c. search rows-laws) (λ c. search rows-laws)  -- shared-slice-read-if2, add-a, sub-rows-in
+    (λ c. search rows-laws) (λ c. search rows-laws) (λ c κs. search rows-laws)  -- part-rows-in-start, part-rows-in-end, rows-in-requires
+    (λ c. search rows-laws) (λ c. search rows-laws) (λ c. search rows-laws) (λ c. search rows-laws)  -- add-n, loop-less, loop-again, loop-less-2
+    (λ c. search rows-laws) (λ c. search rows-laws))  -- loop-again-2, returns-2

@@ -7,7 +7,5 @@ pub rows-in-spec : {M : Type 1} → statement M
 rows-in-spec =
     tie.close
     (tie.spec
-    (λ c κs. search rows-in-laws)  -- behind-four-requires
-    (λ c κs. search rows-in-laws)  -- count-of-requires
-    (λ c. search rows-in-laws)  -- returns
+    (λ c κs. search rows-in-laws) (λ c κs. search rows-in-laws) (λ c. search rows-in-laws)  -- behind-four-requires, count-of-requires, returns
     (λ c. search rows-in-laws))  -- returns-2

@@ -7,8 +7,5 @@ pub read-abort-spec : {M : Type 1} → statement M
 read-abort-spec =
     tie.close
     (tie.spec
-    (λ c κs. search abort-laws)  -- kind-of-requires
-    (λ c. search abort-laws)  -- returns
-    (λ c. search abort-laws)  -- shared-slice-read-t2
-    (λ c. search abort-laws)  -- shared-slice-read-t6
-    (λ c. search abort-laws))  -- returns-2
+    (λ c κs. search abort-laws) (λ c. search abort-laws) (λ c. search abort-laws)  -- kind-of-requires, returns, shared-slice-read-t2
+    (λ c. search abort-laws) (λ c. search abort-laws))  -- shared-slice-read-t6, returns-2

@@ -7,9 +7,5 @@ pub read-reject-spec : {M : Type 1} → statement M
 read-reject-spec =
     tie.close
     (tie.spec
-    (λ c κs. search reject-laws)  -- kind-of-requires
-    (λ c. search reject-laws)  -- returns
-    (λ c. search reject-laws)  -- shared-slice-read-t2
-    (λ c. search reject-laws)  -- shared-slice-read-t6
-    (λ c. search reject-laws)  -- shared-slice-read-t8
-    (λ c. search reject-laws))  -- returns-2
+    (λ c κs. search reject-laws) (λ c. search reject-laws) (λ c. search reject-laws)  -- kind-of-requires, returns, shared-slice-read-t2
+    (λ c. search reject-laws) (λ c. search reject-laws) (λ c. search reject-laws))  -- shared-slice-read-t6, shared-slice-read-t8, returns-2

@@ -12,15 +12,7 @@ unfolding answerRecord answers answeredOk answeredOf transferOf
 answer-record-spec =
     tie.close
     (tie.spec
-    (λ c. search one-laws)  -- shared-slice-read-if1
-    (λ c. search one-laws)  -- returns
-    (λ c κs. search one-laws)  -- fields-ok-requires
-    (λ c. search one-laws)  -- returns-2
-    (λ c. search one-laws)  -- shared-slice-read-if3
-    (λ c. search one-laws)  -- returns-3
-    (λ c. search one-laws)  -- shared-slice-read-if4
-    (λ c. search one-laws)  -- returns-4
-    (λ c. search one-laws)  -- shared-slice-read-transfer-name-ok
-    (λ c κs. search one-laws)  -- name-in-requires
-    (λ c κs. search one-laws)  -- transfer-name-ok-requires
-    (λ c. search one-laws))  -- returns-5
+    (λ c. search one-laws) (λ c. search one-laws) (λ c κs. search one-laws)  -- shared-slice-read-if1, returns, fields-ok-requires
+    (λ c. search one-laws) (λ c. search one-laws) (λ c. search one-laws)  -- returns-2, shared-slice-read-if3, returns-3
+    (λ c. search one-laws) (λ c. search one-laws) (λ c. search one-laws)  -- shared-slice-read-if4, returns-4, shared-slice-read-transfer-name-ok
+    (λ c κs. search one-laws) (λ c κs. search one-laws) (λ c. search one-laws))  -- name-in-requires, transfer-name-ok-requires, returns-5

@@ -10,5 +10,4 @@ unfolding sheetOk
 answers-ok-spec =
     tie.close
     (tie.spec
-    (λ c κs. search needs)  -- sheet-ok-requires
-    (λ c. search needs))  -- returns
+    (λ c κs. search needs) (λ c. search needs))  -- sheet-ok-requires, returns

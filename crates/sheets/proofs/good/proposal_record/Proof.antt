@@ -10,15 +10,7 @@ unfolding proposalRecord proposes abstractOf transferOf
 proposal-record-spec =
     tie.close
     (tie.spec
-    (λ c. search one-laws)  -- shared-slice-read-if1
-    (λ c. search one-laws)  -- returns
-    (λ c κs. search one-laws)  -- fields-ok-requires
-    (λ c. search one-laws)  -- returns-2
-    (λ c. search one-laws)  -- shared-slice-read-if3
-    (λ c. search one-laws)  -- returns-3
-    (λ c κs. search one-laws)  -- name-in-requires
-    (λ c κs. search one-laws)  -- name-ok-requires
-    (λ c. search one-laws)  -- returns-4
-    (λ c κs. search one-laws)  -- name-in-requires-2
-    (λ c κs. search one-laws)  -- name-ok-requires-2
-    (λ c. search one-laws))  -- returns-5
+    (λ c. search one-laws) (λ c. search one-laws) (λ c κs. search one-laws)  -- shared-slice-read-if1, returns, fields-ok-requires
+    (λ c. search one-laws) (λ c. search one-laws) (λ c. search one-laws)  -- returns-2, shared-slice-read-if3, returns-3
+    (λ c κs. search one-laws) (λ c κs. search one-laws) (λ c. search one-laws)  -- name-in-requires, name-ok-requires, returns-4
+    (λ c κs. search one-laws) (λ c κs. search one-laws) (λ c. search one-laws))  -- name-in-requires-2, name-ok-requires-2, returns-5

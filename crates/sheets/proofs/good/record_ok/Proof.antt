@@ -10,7 +10,5 @@ unfolding recordOk
 record-ok-spec =
     tie.close
     (tie.spec
-    (λ c κs. search decide)  -- answer-record-requires
-    (λ c. search decide)  -- returns
-    (λ c κs. search decide)  -- proposal-record-requires
+    (λ c κs. search decide) (λ c. search decide) (λ c κs. search decide)  -- answer-record-requires, returns, proposal-record-requires
     (λ c. search decide))  -- returns-2

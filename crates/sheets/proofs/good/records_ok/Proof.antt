@@ -22,11 +22,6 @@ records-ok-spec =
     (tie.spec
     Inv-loop
     μ-loop
-    (λ c. search all-laws)  -- loop-holds
-    (λ c κs. search all-laws)  -- record-at-requires
-    (λ c κs. search all-laws)  -- record-ok-requires
-    (λ c. search all-laws)  -- returns
-    (λ c. search all-laws)  -- add-at
-    (λ c. search all-laws)  -- loop-less
-    (λ c. search all-laws)  -- loop-again
+    (λ c. search all-laws) (λ c κs. search all-laws) (λ c κs. search all-laws)  -- loop-holds, record-at-requires, record-ok-requires
+    (λ c. search all-laws) (λ c. search all-laws) (λ c. search all-laws) (λ c. search all-laws)  -- returns, add-at, loop-less, loop-again
     (λ c. search all-laws))  -- returns-2

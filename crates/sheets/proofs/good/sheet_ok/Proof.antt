@@ -8,11 +8,6 @@ pub sheet-ok-spec : {M : Type 1} → statement M
 sheet-ok-spec =
     tie.close
     (tie.spec
-    (λ c. search sheet-laws)  -- returns
-    (λ c. search sheet-laws)  -- returns-2
-    (λ c κs. search sheet-laws)  -- records-ok-requires
-    (λ c. search sheet-laws)  -- returns-3
-    (λ c κs. search sheet-laws)  -- ids-differ-requires
-    (λ c. search sheet-laws)  -- returns-4
-    (λ c κs. search sheet-laws)  -- runs-differ-requires
-    (λ c. search sheet-laws))  -- returns-5
+    (λ c. search sheet-laws) (λ c. search sheet-laws) (λ c κs. search sheet-laws)  -- returns, returns-2, records-ok-requires
+    (λ c. search sheet-laws) (λ c κs. search sheet-laws) (λ c. search sheet-laws)  -- returns-3, ids-differ-requires, returns-4
+    (λ c κs. search sheet-laws) (λ c. search sheet-laws))  -- runs-differ-requires, returns-5

@@ -10,5 +10,4 @@ unfolding transferNameOk
 transfer-name-ok-spec =
     tie.close
     (tie.spec
-    (λ c κs. search needs)  -- name-ok-requires
-    (λ c. search needs))  -- returns
+    (λ c κs. search needs) (λ c. search needs))  -- name-ok-requires, returns

@@ -21,10 +21,5 @@ zeros-spec =
     (tie.spec
     Inv-loop
     μ-loop
-    (λ c. search zero-laws)  -- loop-holds
-    (λ c. search zero-laws)  -- shared-slice-read-if1
-    (λ c. search zero-laws)  -- returns
-    (λ c. search zero-laws)  -- add-i
-    (λ c. search zero-laws)  -- loop-less
-    (λ c. search zero-laws)  -- loop-again
-    (λ c. search zero-laws))  -- returns-2
+    (λ c. search zero-laws) (λ c. search zero-laws) (λ c. search zero-laws)  -- loop-holds, shared-slice-read-if1, returns
+    (λ c. search zero-laws) (λ c. search zero-laws) (λ c. search zero-laws) (λ c. search zero-laws))  -- add-i, loop-less, loop-again, returns-2

@@ -21,10 +21,5 @@ id-later-spec =
     (tie.spec
     Inv-loop
     μ-loop
-    (λ c. search later-laws)  -- loop-holds
-    (λ c. search later-laws)  -- shared-slice-read-if1
-    (λ c. search later-laws)  -- returns
-    (λ c. search later-laws)  -- add-at
-    (λ c. search later-laws)  -- loop-less
-    (λ c. search later-laws)  -- loop-again
-    (λ c. search later-laws))  -- returns-2
+    (λ c. search later-laws) (λ c. search later-laws) (λ c. search later-laws)  -- loop-holds, shared-slice-read-if1, returns
+    (λ c. search later-laws) (λ c. search later-laws) (λ c. search later-laws) (λ c. search later-laws))  -- add-at, loop-less, loop-again, returns-2

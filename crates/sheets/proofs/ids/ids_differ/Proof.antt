@@ -21,11 +21,6 @@ ids-differ-spec =
     (tie.spec
     Inv-loop
     μ-loop
-    (λ c. search apart-laws)  -- loop-holds
-    (λ c. search apart-laws)  -- add-e
-    (λ c. search apart-laws)  -- shared-slice-read-id-later
-    (λ c κs. search apart-laws)  -- id-later-requires
-    (λ c. search apart-laws)  -- returns
-    (λ c. search apart-laws)  -- loop-less
-    (λ c. search apart-laws)  -- loop-again
-    (λ c. search apart-laws))  -- returns-2
+    (λ c. search apart-laws) (λ c. search apart-laws) (λ c. search apart-laws)  -- loop-holds, add-e, shared-slice-read-id-later
+    (λ c κs. search apart-laws) (λ c. search apart-laws) (λ c. search apart-laws)  -- id-later-requires, returns, loop-less
+    (λ c. search apart-laws) (λ c. search apart-laws))  -- loop-again, returns-2

@@ -23,14 +23,7 @@ runs-differ-spec =
     (tie.spec
     Inv-loop
     μ-loop
-    (λ c. search differ-laws)  -- loop-holds
-    (λ c. search differ-laws)  -- add-e
-    (λ c κs. search differ-laws)  -- goes-on-requires
-    (λ c. search differ-laws)  -- shared-slice-read-id-later
-    (λ c κs. search differ-laws)  -- id-later-requires
-    (λ c. search differ-laws)  -- returns
-    (λ c. search differ-laws)  -- loop-less
-    (λ c. search differ-laws)  -- loop-again
-    (λ c. search differ-laws)  -- loop-less-2
-    (λ c. search differ-laws)  -- loop-again-2
-    (λ c. search differ-laws))  -- returns-2
+    (λ c. search differ-laws) (λ c. search differ-laws) (λ c κs. search differ-laws)  -- loop-holds, add-e, goes-on-requires
+    (λ c. search differ-laws) (λ c κs. search differ-laws) (λ c. search differ-laws)  -- shared-slice-read-id-later, id-later-requires, returns
+    (λ c. search differ-laws) (λ c. search differ-laws) (λ c. search differ-laws)  -- loop-less, loop-again, loop-less-2
+    (λ c. search differ-laws) (λ c. search differ-laws))  -- loop-again-2, returns-2

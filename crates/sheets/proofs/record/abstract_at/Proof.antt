@@ -10,5 +10,4 @@ unfolding abstractAt
 abstract-at-spec =
     tie.close
     (tie.spec
-    (λ c κs. search needs)  -- name-at-requires
-    (λ c. search needs))  -- returns
+    (λ c κs. search needs) (λ c. search needs))  -- name-at-requires, returns

@@ -8,5 +8,4 @@ pub cap-of-spec : {M : Type 1} → statement M
 cap-of-spec =
     tie.close
     (tie.spec
-    (λ c. search cap-laws)  -- returns
-    (λ c. search cap-laws))  -- returns-2
+    (λ c. search cap-laws) (λ c. search cap-laws))  -- returns, returns-2

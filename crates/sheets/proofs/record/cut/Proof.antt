@@ -8,6 +8,4 @@ pub cut-spec : {M : Type 1} → statement M
 cut-spec =
     tie.close
     (tie.spec
-    (λ c. search cut-laws)  -- returns
-    (λ c. search cut-laws)  -- slice-aggregate-result
-    (λ c. search cut-laws))  -- returns-2
+    (λ c. search cut-laws) (λ c. search cut-laws) (λ c. search cut-laws))  -- returns, slice-aggregate-result, returns-2

@@ -8,14 +8,7 @@ pub fill-record-spec : {M : Type 1} → statement M
 fill-record-spec =
     tie.close
     (tie.spec
-    (λ c. search fill-laws)  -- array-write-s
-    (λ c. search fill-laws)  -- array-write-s-2
-    (λ c. search fill-laws)  -- cast-s
-    (λ c. search fill-laws)  -- array-write-s-3
-    (λ c. search fill-laws)  -- cast-s-2
-    (λ c. search fill-laws)  -- array-write-s-4
-    (λ c. search fill-laws)  -- slice-aggregate-put
-    (λ c κs. search fill-laws)  -- put-requires
-    (λ c. search fill-laws)  -- slice-aggregate-put-2
-    (λ c κs. search fill-laws)  -- put-requires-2
-    (λ c. search fill-laws))  -- returns
+    (λ c. search fill-laws) (λ c. search fill-laws) (λ c. search fill-laws)  -- array-write-s, array-write-s-2, cast-s
+    (λ c. search fill-laws) (λ c. search fill-laws) (λ c. search fill-laws)  -- array-write-s-3, cast-s-2, array-write-s-4
+    (λ c. search fill-laws) (λ c κs. search fill-laws) (λ c. search fill-laws)  -- slice-aggregate-put, put-requires, slice-aggregate-put-2
+    (λ c κs. search fill-laws) (λ c. search fill-laws))  -- put-requires-2, returns

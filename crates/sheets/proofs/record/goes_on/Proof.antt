@@ -8,14 +8,7 @@ pub goes-on-spec : {M : Type 1} → statement M
 goes-on-spec =
     tie.close
     (tie.spec
-    (λ c. search on-laws)  -- returns
-    (λ c. search on-laws)  -- sub-if2
-    (λ c. search on-laws)  -- returns-2
-    (λ c. search on-laws)  -- add-e
-    (λ c. search on-laws)  -- shared-slice-read-if3
-    (λ c. search on-laws)  -- shared-slice-read-if3-2
-    (λ c. search on-laws)  -- returns-3
-    (λ c κs. search on-laws)  -- abstract-at-requires
-    (λ c κs. search on-laws)  -- abstract-at-requires-2
-    (λ c κs. search on-laws)  -- same-bytes-requires
+    (λ c. search on-laws) (λ c. search on-laws) (λ c. search on-laws) (λ c. search on-laws)  -- returns, sub-if2, returns-2, add-e
+    (λ c. search on-laws) (λ c. search on-laws) (λ c. search on-laws)  -- shared-slice-read-if3, shared-slice-read-if3-2, returns-3
+    (λ c κs. search on-laws) (λ c κs. search on-laws) (λ c κs. search on-laws)  -- abstract-at-requires, abstract-at-requires-2, same-bytes-requires
     (λ c. search on-laws))  -- returns-4

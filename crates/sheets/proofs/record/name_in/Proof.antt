@@ -8,10 +8,6 @@ pub name-in-spec : {M : Type 1} → statement M
 name-in-spec =
     tie.close
     (tie.spec
-    (λ c. search part-laws)  -- shared-slice-read-cap-of
-    (λ c κs. search part-laws)  -- cap-of-requires
-    (λ c. search part-laws)  -- add-e
-    (λ c. search part-laws)  -- sub-result
-    (λ c. search part-laws)  -- part-result-start
-    (λ c. search part-laws)  -- part-result-end
+    (λ c. search part-laws) (λ c κs. search part-laws) (λ c. search part-laws)  -- shared-slice-read-cap-of, cap-of-requires, add-e
+    (λ c. search part-laws) (λ c. search part-laws) (λ c. search part-laws)  -- sub-result, part-result-start, part-result-end
     (λ c. search part-laws))  -- returns

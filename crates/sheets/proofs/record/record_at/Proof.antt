@@ -8,8 +8,5 @@ pub record-at-spec : {M : Type 1} → statement M
 record-at-spec =
     tie.close
     (tie.spec
-    (λ c. search part-laws)  -- add-e
-    (λ c. search part-laws)  -- sub-result
-    (λ c. search part-laws)  -- part-result-start
-    (λ c. search part-laws)  -- part-result-end
-    (λ c. search part-laws))  -- returns
+    (λ c. search part-laws) (λ c. search part-laws) (λ c. search part-laws)  -- add-e, sub-result, part-result-start
+    (λ c. search part-laws) (λ c. search part-laws))  -- part-result-end, returns

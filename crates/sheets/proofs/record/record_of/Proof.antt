@@ -8,7 +8,5 @@ pub record-of-spec : {M : Type 1} → statement M
 record-of-spec =
     tie.close
     (tie.spec
-    (λ c κs. search record-laws)  -- cut-requires
-    (λ c κs. search record-laws)  -- cut-requires-2
-    (λ c κs. search record-laws)  -- fill-record-requires
+    (λ c κs. search record-laws) (λ c κs. search record-laws) (λ c κs. search record-laws)  -- cut-requires, cut-requires-2, fill-record-requires
     (λ c. search record-laws))  -- returns

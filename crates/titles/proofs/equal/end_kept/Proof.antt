@@ -20,11 +20,5 @@ end-kept-spec =
     (tie.spec
     Inv-loop
     μ-loop
-    (λ c. search end-laws)  -- loop-holds
-    (λ c. search end-laws)  -- sub-if1
-    (λ c. search end-laws)  -- shared-slice-read-if1
-    (λ c. search end-laws)  -- returns
-    (λ c. search end-laws)  -- sub-e
-    (λ c. search end-laws)  -- loop-less
-    (λ c. search end-laws)  -- loop-again
-    (λ c. search end-laws))  -- returns-2
+    (λ c. search end-laws) (λ c. search end-laws) (λ c. search end-laws) (λ c. search end-laws)  -- loop-holds, sub-if1, shared-slice-read-if1, returns
+    (λ c. search end-laws) (λ c. search end-laws) (λ c. search end-laws) (λ c. search end-laws))  -- sub-e, loop-less, loop-again, returns-2

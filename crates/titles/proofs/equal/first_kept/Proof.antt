@@ -20,10 +20,5 @@ first-kept-spec =
     (tie.spec
     Inv-loop
     μ-loop
-    (λ c. search front-laws)  -- loop-holds
-    (λ c. search front-laws)  -- shared-slice-read-if1
-    (λ c. search front-laws)  -- returns
-    (λ c. search front-laws)  -- add-i
-    (λ c. search front-laws)  -- loop-less
-    (λ c. search front-laws)  -- loop-again
-    (λ c. search front-laws))  -- returns-2
+    (λ c. search front-laws) (λ c. search front-laws) (λ c. search front-laws)  -- loop-holds, shared-slice-read-if1, returns
+    (λ c. search front-laws) (λ c. search front-laws) (λ c. search front-laws) (λ c. search front-laws))  -- add-i, loop-less, loop-again, returns-2

@@ -8,7 +8,5 @@ pub titles-equal-spec : {M : Type 1} → statement M
 titles-equal-spec =
     tie.close
     (tie.spec
-    (λ c κs. search equal-laws)  -- trimmed-requires
-    (λ c κs. search equal-laws)  -- trimmed-requires-2
-    (λ c κs. search equal-laws)  -- same-bytes-requires
+    (λ c κs. search equal-laws) (λ c κs. search equal-laws) (λ c κs. search equal-laws)  -- trimmed-requires, trimmed-requires-2, same-bytes-requires
     (λ c. search equal-laws))  -- returns

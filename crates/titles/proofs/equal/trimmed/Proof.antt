@@ -8,10 +8,6 @@ pub trimmed-spec : {M : Type 1} → statement M
 trimmed-spec =
     tie.close
     (tie.spec
-    (λ c κs. search trim-laws)  -- first-kept-requires
-    (λ c. search trim-laws)  -- sub-t
-    (λ c. search trim-laws)  -- part-t-start
-    (λ c. search trim-laws)  -- part-t-end
-    (λ c κs. search trim-laws)  -- end-kept-requires
-    (λ c. search trim-laws)  -- slice-aggregate-result
+    (λ c κs. search trim-laws) (λ c. search trim-laws) (λ c. search trim-laws)  -- first-kept-requires, sub-t, part-t-start
+    (λ c. search trim-laws) (λ c κs. search trim-laws) (λ c. search trim-laws)  -- part-t-end, end-kept-requires, slice-aggregate-result
     (λ c. search trim-laws))  -- returns

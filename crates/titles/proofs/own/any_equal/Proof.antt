@@ -22,15 +22,7 @@ any-equal-spec =
     (tie.spec
     Inv-loop
     μ-loop
-    (λ c. search any-laws)  -- loop-holds
-    (λ c. search any-laws)  -- mul-at
-    (λ c. search any-laws)  -- add-titles-equal
-    (λ c. search any-laws)  -- sub-titles-equal
-    (λ c. search any-laws)  -- part-titles-equal-start
-    (λ c. search any-laws)  -- part-titles-equal-end
-    (λ c κs. search any-laws)  -- titles-equal-requires
-    (λ c. search any-laws)  -- returns
-    (λ c. search any-laws)  -- add-k
-    (λ c. search any-laws)  -- loop-less
-    (λ c. search any-laws)  -- loop-again
-    (λ c. search any-laws))  -- returns-2
+    (λ c. search any-laws) (λ c. search any-laws) (λ c. search any-laws)  -- loop-holds, mul-at, add-titles-equal
+    (λ c. search any-laws) (λ c. search any-laws) (λ c. search any-laws)  -- sub-titles-equal, part-titles-equal-start, part-titles-equal-end
+    (λ c κs. search any-laws) (λ c. search any-laws) (λ c. search any-laws) (λ c. search any-laws)  -- titles-equal-requires, returns, add-k, loop-less
+    (λ c. search any-laws) (λ c. search any-laws))  -- loop-again, returns-2

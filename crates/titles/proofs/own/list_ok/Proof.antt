@@ -22,17 +22,7 @@ list-ok-spec =
     (tie.spec
     Inv-loop
     μ-loop
-    (λ c. search list-laws)  -- returns
-    (λ c. search list-laws)  -- returns-2
-    (λ c. search list-laws)  -- loop-holds
-    (λ c. search list-laws)  -- mul-at
-    (λ c. search list-laws)  -- add-title-ok
-    (λ c. search list-laws)  -- sub-title-ok
-    (λ c. search list-laws)  -- part-title-ok-start
-    (λ c. search list-laws)  -- part-title-ok-end
-    (λ c κs. search list-laws)  -- title-ok-requires
-    (λ c. search list-laws)  -- returns-3
-    (λ c. search list-laws)  -- add-k
-    (λ c. search list-laws)  -- loop-less
-    (λ c. search list-laws)  -- loop-again
-    (λ c. search list-laws))  -- returns-4
+    (λ c. search list-laws) (λ c. search list-laws) (λ c. search list-laws) (λ c. search list-laws)  -- returns, returns-2, loop-holds, mul-at
+    (λ c. search list-laws) (λ c. search list-laws) (λ c. search list-laws)  -- add-title-ok, sub-title-ok, part-title-ok-start
+    (λ c. search list-laws) (λ c κs. search list-laws) (λ c. search list-laws)  -- part-title-ok-end, title-ok-requires, returns-3
+    (λ c. search list-laws) (λ c. search list-laws) (λ c. search list-laws) (λ c. search list-laws))  -- add-k, loop-less, loop-again, returns-4

@@ -8,9 +8,5 @@ pub title-known-spec : {M : Type 1} → statement M
 title-known-spec =
     tie.close
     (tie.spec
-    (λ c. search known-laws)  -- returns
-    (λ c κs. search known-laws)  -- list-ok-requires
-    (λ c. search known-laws)  -- returns-2
-    (λ c κs. search known-laws)  -- any-equal-requires
-    (λ c. search known-laws)  -- returns-3
-    (λ c. search known-laws))  -- returns-4
+    (λ c. search known-laws) (λ c κs. search known-laws) (λ c. search known-laws)  -- returns, list-ok-requires, returns-2
+    (λ c κs. search known-laws) (λ c. search known-laws) (λ c. search known-laws))  -- any-equal-requires, returns-3, returns-4

@@ -23,13 +23,8 @@ title-ok-spec =
     (tie.spec
     Inv-loop
     μ-loop
-    (λ c. search title-laws)  -- returns
-    (λ c. search title-laws)  -- loop-holds
-    (λ c. search title-laws)  -- shared-slice-read-b
-    (λ c. search title-laws)  -- returns-2
-    (λ c. search title-laws)  -- returns-3
-    (λ c. search title-laws)  -- returns-4
-    (λ c. search title-laws)  -- add-i
+    (λ c. search title-laws) (λ c. search title-laws) (λ c. search title-laws)  -- returns, loop-holds, shared-slice-read-b
+    (λ c. search title-laws) (λ c. search title-laws) (λ c. search title-laws) (λ c. search title-laws)  -- returns-2, returns-3, returns-4, add-i
     (λ c. search title-laws)  -- loop-less
     (λ c. ⊎-elim (λ w. search title-laws) (λ w. search title-laws) (c .if5 .came))  -- loop-again
     (λ c. search title-laws))  -- returns-5

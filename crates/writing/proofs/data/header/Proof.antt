@@ -8,9 +8,5 @@ pub header-spec : {M : Type 1} → statement M
 header-spec =
     tie.close
     (tie.spec
-    (λ c κs. search header-laws)  -- four-of-requires
-    (λ c. search header-laws)  -- array-read-t7
-    (λ c. search header-laws)  -- array-read-t10
-    (λ c. search header-laws)  -- array-read-t13
-    (λ c. search header-laws)  -- array-read-t16
-    (λ c. search header-laws))  -- returns
+    (λ c κs. search header-laws) (λ c. search header-laws) (λ c. search header-laws)  -- four-of-requires, array-read-t7, array-read-t10
+    (λ c. search header-laws) (λ c. search header-laws) (λ c. search header-laws))  -- array-read-t13, array-read-t16, returns

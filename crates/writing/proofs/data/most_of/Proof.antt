@@ -8,6 +8,4 @@ pub most-of-spec : {M : Type 1} → statement M
 most-of-spec =
     tie.close
     (tie.spec
-    (λ c. search most-laws)  -- returns
-    (λ c. search most-laws)  -- returns-2
-    (λ c. search most-laws))  -- returns-3
+    (λ c. search most-laws) (λ c. search most-laws) (λ c. search most-laws))  -- returns, returns-2, returns-3

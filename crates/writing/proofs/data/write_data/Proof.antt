@@ -8,16 +8,7 @@ pub write-data-spec : {M : Type 1} → statement M
 write-data-spec =
     tie.close
     (tie.spec
-    (λ c κs. search data-laws)  -- pdvs-ok-requires
-    (λ c. search data-laws)  -- returns
-    (λ c κs. search data-laws)  -- most-of-requires
-    (λ c. search data-laws)  -- returns-2
-    (λ c. search data-laws)  -- add-if3
-    (λ c. search data-laws)  -- returns-3
-    (λ c. search data-laws)  -- cast-header
-    (λ c κs. search data-laws)  -- header-requires
-    (λ c. search data-laws)  -- slice-aggregate-put
-    (λ c κs. search data-laws)  -- put-requires
-    (λ c κs. search data-laws)  -- put-requires-2
-    (λ c. search data-laws)  -- same-length
-    (λ c. search data-laws))  -- returns-4
+    (λ c κs. search data-laws) (λ c. search data-laws) (λ c κs. search data-laws)  -- pdvs-ok-requires, returns, most-of-requires
+    (λ c. search data-laws) (λ c. search data-laws) (λ c. search data-laws) (λ c. search data-laws)  -- returns-2, add-if3, returns-3, cast-header
+    (λ c κs. search data-laws) (λ c. search data-laws) (λ c κs. search data-laws)  -- header-requires, slice-aggregate-put, put-requires
+    (λ c κs. search data-laws) (λ c. search data-laws) (λ c. search data-laws))  -- put-requires-2, same-length, returns-4

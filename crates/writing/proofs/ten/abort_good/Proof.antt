@@ -8,6 +8,4 @@ pub abort-good-spec : {M : Type 1} → statement M
 abort-good-spec =
     tie.close
     (tie.spec
-    (λ c. search abort-good-laws)  -- returns
-    (λ c κs. search abort-good-laws)  -- abort-ok-requires
-    (λ c. search abort-good-laws))  -- returns-2
+    (λ c. search abort-good-laws) (λ c κs. search abort-good-laws) (λ c. search abort-good-laws))  -- returns, abort-ok-requires, returns-2

@@ -8,7 +8,5 @@ pub send-spec : {M : Type 1} → statement M
 send-spec =
     tie.close
     (tie.spec
-    (λ c. search send-laws)  -- returns
-    (λ c κs. search send-laws)  -- put-requires
-    (λ c. search send-laws)  -- same-length
+    (λ c. search send-laws) (λ c κs. search send-laws) (λ c. search send-laws)  -- returns, put-requires, same-length
     (λ c. search send-laws))  -- returns-2

@@ -8,8 +8,5 @@ pub send-fixed-spec : {M : Type 1} → statement M
 send-fixed-spec =
     tie.close
     (tie.spec
-    (λ c κs. search fixed-laws)  -- ten-of-requires
-    (λ c. search fixed-laws)  -- slice-aggregate-send
-    (λ c κs. search fixed-laws)  -- send-requires
-    (λ c. search fixed-laws)  -- same-length
-    (λ c. search fixed-laws))  -- returns
+    (λ c κs. search fixed-laws) (λ c. search fixed-laws) (λ c κs. search fixed-laws)  -- ten-of-requires, slice-aggregate-send, send-requires
+    (λ c. search fixed-laws) (λ c. search fixed-laws))  -- same-length, returns

@@ -8,6 +8,4 @@ pub ten-len-spec : {M : Type 1} → statement M
 ten-len-spec =
     tie.close
     (tie.spec
-    (λ c. search len-laws)  -- returns
-    (λ c. search len-laws)  -- returns-2
-    (λ c. search len-laws))  -- returns-3
+    (λ c. search len-laws) (λ c. search len-laws) (λ c. search len-laws))  -- returns, returns-2, returns-3

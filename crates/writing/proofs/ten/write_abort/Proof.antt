@@ -11,9 +11,5 @@ unfolding abortForm abortBytes
 write-abort-spec =
     tie.close
     (tie.spec
-    (λ c κs. search contents-laws)  -- abort-good-requires
-    (λ c. search contents-laws)  -- returns
-    (λ c. search contents-laws)  -- slice-aggregate-send
-    (λ c κs. search contents-laws)  -- send-requires
-    (λ c. search contents-laws)  -- same-length
-    (λ c. search contents-laws))  -- returns-2
+    (λ c κs. search contents-laws) (λ c. search contents-laws) (λ c. search contents-laws)  -- abort-good-requires, returns, slice-aggregate-send
+    (λ c κs. search contents-laws) (λ c. search contents-laws) (λ c. search contents-laws))  -- send-requires, same-length, returns-2

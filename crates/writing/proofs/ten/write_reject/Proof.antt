@@ -12,9 +12,5 @@ unfolding rejectForm rejectGood rejectBytes
 write-reject-spec =
     tie.close
     (tie.spec
-    (λ c κs. search contents-laws)  -- reject-ok-requires
-    (λ c. search contents-laws)  -- returns
-    (λ c. search contents-laws)  -- slice-aggregate-send
-    (λ c κs. search contents-laws)  -- send-requires
-    (λ c. search contents-laws)  -- same-length
-    (λ c. search contents-laws))  -- returns-2
+    (λ c κs. search contents-laws) (λ c. search contents-laws) (λ c. search contents-laws)  -- reject-ok-requires, returns, slice-aggregate-send
+    (λ c κs. search contents-laws) (λ c. search contents-laws) (λ c. search contents-laws))  -- send-requires, same-length, returns-2

@@ -8,10 +8,6 @@ pub write-ten-spec : {M : Type 1} → statement M
 write-ten-spec =
     tie.close
     (tie.spec
-    (λ c κs. search placed-ten-laws)  -- ten-len-requires
-    (λ c. search placed-ten-laws)  -- returns
-    (λ c κs. search placed-ten-laws)  -- ten-of-requires
-    (λ c. search placed-ten-laws)  -- slice-aggregate-put
-    (λ c κs. search placed-ten-laws)  -- put-requires
-    (λ c. search placed-ten-laws)  -- same-length
+    (λ c κs. search placed-ten-laws) (λ c. search placed-ten-laws) (λ c κs. search placed-ten-laws)  -- ten-len-requires, returns, ten-of-requires
+    (λ c. search placed-ten-laws) (λ c κs. search placed-ten-laws) (λ c. search placed-ten-laws)  -- slice-aggregate-put, put-requires, same-length
     (λ c. search placed-ten-laws))  -- returns-2

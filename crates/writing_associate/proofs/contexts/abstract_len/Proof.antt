@@ -8,5 +8,4 @@ pub abstract-len-spec : {M : Type 1} → statement M
 abstract-len-spec =
     tie.close
     (tie.spec
-    (λ c κs. search length-laws)  -- abstract-at-requires
-    (λ c. search length-laws))  -- returns
+    (λ c κs. search length-laws) (λ c. search length-laws))  -- abstract-at-requires, returns

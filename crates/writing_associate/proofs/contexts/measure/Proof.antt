@@ -22,13 +22,7 @@ measure-spec =
     (tie.spec
     Inv-loop
     μ-loop
-    (λ c. search measure-laws)  -- loop-holds
-    (λ c κs. search measure-laws)  -- step-size-requires
-    (λ c. search measure-laws)  -- add-n
-    (λ c. search measure-laws)  -- add-result
-    (λ c. search measure-laws)  -- returns
-    (λ c κs. search measure-laws)  -- goes-on-requires
-    (λ c. search measure-laws)  -- add-at
-    (λ c. search measure-laws)  -- loop-less
-    (λ c. search measure-laws)  -- loop-again
+    (λ c. search measure-laws) (λ c κs. search measure-laws) (λ c. search measure-laws)  -- loop-holds, step-size-requires, add-n
+    (λ c. search measure-laws) (λ c. search measure-laws) (λ c κs. search measure-laws)  -- add-result, returns, goes-on-requires
+    (λ c. search measure-laws) (λ c. search measure-laws) (λ c. search measure-laws)  -- add-at, loop-less, loop-again
     (λ c. search measure-laws))  -- returns-2

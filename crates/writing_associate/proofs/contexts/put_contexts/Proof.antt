@@ -18,11 +18,6 @@ put-contexts-spec =
     (tie.spec
     Inv-loop
     μ-loop
-    (λ c. search write-laws)  -- loop-holds
-    (λ c κs. search write-laws)  -- put-step-requires
-    (λ c κs. search write-laws)  -- goes-on-requires
-    (λ c. search write-laws)  -- add-at
-    (λ c. search write-laws)  -- loop-less
-    (λ c. search write-laws)  -- loop-again
-    (λ c. search write-laws)  -- same-length
+    (λ c. search write-laws) (λ c κs. search write-laws) (λ c κs. search write-laws)  -- loop-holds, put-step-requires, goes-on-requires
+    (λ c. search write-laws) (λ c. search write-laws) (λ c. search write-laws) (λ c. search write-laws)  -- add-at, loop-less, loop-again, same-length
     (λ c. search write-laws))  -- returns

@@ -8,9 +8,5 @@ pub put-head-spec : {M : Type 1} → statement M
 put-head-spec =
     tie.close
     (tie.spec
-    (λ c. search head-laws)  -- cast-t9
-    (λ c. search head-laws)  -- cast-t11
-    (λ c. search head-laws)  -- slice-aggregate-put
-    (λ c κs. search head-laws)  -- put-requires
-    (λ c. search head-laws)  -- same-length
-    (λ c. search head-laws))  -- returns
+    (λ c. search head-laws) (λ c. search head-laws) (λ c. search head-laws)  -- cast-t9, cast-t11, slice-aggregate-put
+    (λ c κs. search head-laws) (λ c. search head-laws) (λ c. search head-laws))  -- put-requires, same-length, returns

@@ -8,21 +8,9 @@ pub put-lead-spec : {M : Type 1} → statement M
 put-lead-spec =
     tie.close
     (tie.spec
-    (λ c κs. search lead-laws)  -- transfer-len-requires
-    (λ c. search lead-laws)  -- add-put-head
-    (λ c. search lead-laws)  -- shared-slice-read-put-head
-    (λ c. search lead-laws)  -- add-put-head-2
-    (λ c. search lead-laws)  -- shared-slice-read-put-head-2
-    (λ c κs. search lead-laws)  -- put-head-requires
-    (λ c. search lead-laws)  -- same-length
-    (λ c. search lead-laws)  -- returns
-    (λ c. search lead-laws)  -- returns-2
-    (λ c κs. search lead-laws)  -- abstract-at-requires
-    (λ c. search lead-laws)  -- add-put-head-3
-    (λ c κs. search lead-laws)  -- run-size-requires
-    (λ c. search lead-laws)  -- add-put-head-4
-    (λ c. search lead-laws)  -- shared-slice-read-put-head-3
-    (λ c κs. search lead-laws)  -- put-head-requires-2
-    (λ c κs. search lead-laws)  -- put-item-requires
-    (λ c. search lead-laws)  -- same-length-2
-    (λ c. search lead-laws))  -- returns-3
+    (λ c κs. search lead-laws) (λ c. search lead-laws) (λ c. search lead-laws)  -- transfer-len-requires, add-put-head, shared-slice-read-put-head
+    (λ c. search lead-laws) (λ c. search lead-laws) (λ c κs. search lead-laws)  -- add-put-head-2, shared-slice-read-put-head-2, put-head-requires
+    (λ c. search lead-laws) (λ c. search lead-laws) (λ c. search lead-laws)  -- same-length, returns, returns-2
+    (λ c κs. search lead-laws) (λ c. search lead-laws) (λ c κs. search lead-laws)  -- abstract-at-requires, add-put-head-3, run-size-requires
+    (λ c. search lead-laws) (λ c. search lead-laws) (λ c κs. search lead-laws)  -- add-put-head-4, shared-slice-read-put-head-3, put-head-requires-2
+    (λ c κs. search lead-laws) (λ c. search lead-laws) (λ c. search lead-laws))  -- put-item-requires, same-length-2, returns-3

@@ -8,8 +8,5 @@ pub put-step-spec : {M : Type 1} → statement M
 put-step-spec =
     tie.close
     (tie.spec
-    (λ c κs. search step-laws)  -- put-lead-requires
-    (λ c κs. search step-laws)  -- transfer-at-requires
-    (λ c κs. search step-laws)  -- put-item-requires
-    (λ c. search step-laws)  -- same-length
-    (λ c. search step-laws))  -- returns
+    (λ c κs. search step-laws) (λ c κs. search step-laws) (λ c κs. search step-laws)  -- put-lead-requires, transfer-at-requires, put-item-requires
+    (λ c. search step-laws) (λ c. search step-laws))  -- same-length, returns

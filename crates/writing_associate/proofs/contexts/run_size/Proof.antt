@@ -22,14 +22,7 @@ run-size-spec =
     (tie.spec
     Inv-loop
     μ-loop
-    (λ c κs. search run-laws)  -- transfer-len-requires
-    (λ c. search run-laws)  -- add-n
-    (λ c. search run-laws)  -- loop-holds
-    (λ c κs. search run-laws)  -- goes-on-requires
-    (λ c. search run-laws)  -- add-at
-    (λ c κs. search run-laws)  -- transfer-len-requires-2
-    (λ c. search run-laws)  -- add-n-2
-    (λ c. search run-laws)  -- add-n-3
-    (λ c. search run-laws)  -- loop-less
-    (λ c. search run-laws)  -- loop-again
+    (λ c κs. search run-laws) (λ c. search run-laws) (λ c. search run-laws)  -- transfer-len-requires, add-n, loop-holds
+    (λ c κs. search run-laws) (λ c. search run-laws) (λ c κs. search run-laws)  -- goes-on-requires, add-at, transfer-len-requires-2
+    (λ c. search run-laws) (λ c. search run-laws) (λ c. search run-laws) (λ c. search run-laws)  -- add-n-2, add-n-3, loop-less, loop-again
     (λ c. search run-laws))  -- returns

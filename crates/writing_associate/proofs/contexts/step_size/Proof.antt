@@ -8,12 +8,6 @@ pub step-size-spec : {M : Type 1} → statement M
 step-size-spec =
     tie.close
     (tie.spec
-    (λ c κs. search size-laws)  -- transfer-len-requires
-    (λ c. search size-laws)  -- add-result
-    (λ c. search size-laws)  -- returns
-    (λ c. search size-laws)  -- add-result-2
-    (λ c. search size-laws)  -- returns-2
-    (λ c κs. search size-laws)  -- abstract-len-requires
-    (λ c. search size-laws)  -- add-result-3
-    (λ c. search size-laws)  -- add-result-4
-    (λ c. search size-laws))  -- returns-3
+    (λ c κs. search size-laws) (λ c. search size-laws) (λ c. search size-laws)  -- transfer-len-requires, add-result, returns
+    (λ c. search size-laws) (λ c. search size-laws) (λ c κs. search size-laws)  -- add-result-2, returns-2, abstract-len-requires
+    (λ c. search size-laws) (λ c. search size-laws) (λ c. search size-laws))  -- add-result-3, add-result-4, returns-3

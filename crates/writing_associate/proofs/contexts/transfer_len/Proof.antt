@@ -8,5 +8,4 @@ pub transfer-len-spec : {M : Type 1} → statement M
 transfer-len-spec =
     tie.close
     (tie.spec
-    (λ c κs. search length-laws)  -- transfer-at-requires
-    (λ c. search length-laws))  -- returns
+    (λ c κs. search length-laws) (λ c. search length-laws))  -- transfer-at-requires, returns

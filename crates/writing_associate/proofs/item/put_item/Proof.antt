@@ -8,10 +8,6 @@ pub put-item-spec : {M : Type 1} → statement M
 put-item-spec =
     tie.close
     (tie.spec
-    (λ c. search item-laws)  -- cast-t9
-    (λ c. search item-laws)  -- cast-t11
-    (λ c. search item-laws)  -- slice-aggregate-put
-    (λ c κs. search item-laws)  -- put-requires
-    (λ c κs. search item-laws)  -- put-requires-2
-    (λ c. search item-laws)  -- same-length
+    (λ c. search item-laws) (λ c. search item-laws) (λ c. search item-laws)  -- cast-t9, cast-t11, slice-aggregate-put
+    (λ c κs. search item-laws) (λ c κs. search item-laws) (λ c. search item-laws)  -- put-requires, put-requires-2, same-length
     (λ c. search item-laws))  -- returns

@@ -8,9 +8,5 @@ pub base-spec : {M : Type 1} → statement M
 base-spec =
     tie.close
     (tie.spec
-    (λ c κs. search base-laws)  -- user-requires
-    (λ c. search base-laws)  -- add-result
-    (λ c. search base-laws)  -- add-result-2
-    (λ c. search base-laws)  -- add-result-3
-    (λ c. search base-laws)  -- add-result-4
-    (λ c. search base-laws))  -- returns
+    (λ c κs. search base-laws) (λ c. search base-laws) (λ c. search base-laws)  -- user-requires, add-result, add-result-2
+    (λ c. search base-laws) (λ c. search base-laws) (λ c. search base-laws))  -- add-result-3, add-result-4, returns

@@ -8,14 +8,7 @@ pub put-fixed-spec : {M : Type 1} → statement M
 put-fixed-spec =
     tie.close
     (tie.spec
-    (λ c. search fixed-laws)  -- cast-four-of
-    (λ c κs. search fixed-laws)  -- four-of-requires
-    (λ c. search fixed-laws)  -- array-read-t12
-    (λ c. search fixed-laws)  -- array-read-t15
-    (λ c. search fixed-laws)  -- array-read-t18
-    (λ c. search fixed-laws)  -- array-read-t21
-    (λ c. search fixed-laws)  -- slice-aggregate-put
-    (λ c κs. search fixed-laws)  -- put-requires
-    (λ c κs. search fixed-laws)  -- put-requires-2
-    (λ c. search fixed-laws)  -- same-length
-    (λ c. search fixed-laws))  -- returns
+    (λ c. search fixed-laws) (λ c κs. search fixed-laws) (λ c. search fixed-laws)  -- cast-four-of, four-of-requires, array-read-t12
+    (λ c. search fixed-laws) (λ c. search fixed-laws) (λ c. search fixed-laws)  -- array-read-t15, array-read-t18, array-read-t21
+    (λ c. search fixed-laws) (λ c κs. search fixed-laws) (λ c κs. search fixed-laws)  -- slice-aggregate-put, put-requires, put-requires-2
+    (λ c. search fixed-laws) (λ c. search fixed-laws))  -- same-length, returns

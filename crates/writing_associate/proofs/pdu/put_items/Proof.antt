@@ -8,10 +8,6 @@ pub put-items-spec : {M : Type 1} → statement M
 put-items-spec =
     tie.close
     (tie.spec
-    (λ c κs. search items-laws)  -- put-item-requires
-    (λ c κs. search items-laws)  -- put-contexts-requires
-    (λ c κs. search items-laws)  -- user-requires
-    (λ c. search items-laws)  -- slice-aggregate-put-item
-    (λ c κs. search items-laws)  -- put-item-requires-2
-    (λ c. search items-laws)  -- same-length
+    (λ c κs. search items-laws) (λ c κs. search items-laws) (λ c κs. search items-laws)  -- put-item-requires, put-contexts-requires, user-requires
+    (λ c. search items-laws) (λ c κs. search items-laws) (λ c. search items-laws)  -- slice-aggregate-put-item, put-item-requires-2, same-length
     (λ c. search items-laws))  -- returns

@@ -8,8 +8,5 @@ pub put-pdu-spec : {M : Type 1} → statement M
 put-pdu-spec =
     tie.close
     (tie.spec
-    (λ c κs. search pdu-laws)  -- pdu-kind-requires
-    (λ c κs. search pdu-laws)  -- put-fixed-requires
-    (λ c κs. search pdu-laws)  -- put-items-requires
-    (λ c. search pdu-laws)  -- same-length
-    (λ c. search pdu-laws))  -- returns
+    (λ c κs. search pdu-laws) (λ c κs. search pdu-laws) (λ c κs. search pdu-laws)  -- pdu-kind-requires, put-fixed-requires, put-items-requires
+    (λ c. search pdu-laws) (λ c. search pdu-laws))  -- same-length, returns

@@ -8,11 +8,6 @@ pub write-pdu-spec : {M : Type 1} → statement M
 write-pdu-spec =
     tie.close
     (tie.spec
-    (λ c κs. search write-pdu-laws)  -- base-requires
-    (λ c κs. search write-pdu-laws)  -- measure-requires
-    (λ c. search write-pdu-laws)  -- returns
-    (λ c. search write-pdu-laws)  -- add-if2
-    (λ c. search write-pdu-laws)  -- returns-2
-    (λ c κs. search write-pdu-laws)  -- put-pdu-requires
-    (λ c. search write-pdu-laws)  -- same-length
-    (λ c. search write-pdu-laws))  -- returns-3
+    (λ c κs. search write-pdu-laws) (λ c κs. search write-pdu-laws) (λ c. search write-pdu-laws)  -- base-requires, measure-requires, returns
+    (λ c. search write-pdu-laws) (λ c. search write-pdu-laws) (λ c κs. search write-pdu-laws)  -- add-if2, returns-2, put-pdu-requires
+    (λ c. search write-pdu-laws) (λ c. search write-pdu-laws))  -- same-length, returns-3
