@@ -9,7 +9,7 @@ use borrow.Author.Tests.{eq-eqb, ne-eqb}
 use Rattle.laws.proofs.Tests.{follow}
 use Rattle.table.specs.Actions.{Sends, sendsNumber, doesOf, nextOf, artimOf}
 use Rattle.table.specs.Actions.{Sends.nothing, Sends.contents, Sends.reject-version, Sends.release-rq, Sends.release-rp, Sends.abort-user, Sends.abort-provider}
-use Rattle.writing.specs.Ten.{NONE, REJECT-VERSION, RELEASE-RQ, RELEASE-RP, ABORT-USER}
+use Rattle.writing.specs.Ten.{NO-TEN, REJECT-VERSION, TEN-RELEASE-RQ, TEN-RELEASE-RP, ABORT-USER}
 use Rattle.association.specs.declared.Assoc.{Assoc}
 use Rattle.association.specs.declared.Brings.{Brings}
 use Rattle.association.specs.Record.{Standing, standing, withGathered, moved, cleared}
@@ -45,11 +45,11 @@ pub ruleset deed-laws = (needs, enters-1, enters-else, is-after)
 unfoldable pub tenNumbered : ℕ → ℕ → ℕ
 tenNumbered n abort =
     cond (eqb n 2) REJECT-VERSION
-    (cond (eqb n 3) RELEASE-RQ
-    (cond (eqb n 4) RELEASE-RP
+    (cond (eqb n 3) TEN-RELEASE-RQ
+    (cond (eqb n 4) TEN-RELEASE-RP
     (cond (eqb n 5) ABORT-USER
     (cond (eqb n 6) abort
-    NONE))))
+    NO-TEN))))
 
 numbered : (s : Sends) (abort : ℕ) → tenNumbered (sendsNumber s) abort ≡ tenFor s abort
 unfolding tenNumbered

@@ -4,7 +4,7 @@ use mathlib.Core.Bool.{Bool, true, false, cond, _&&_, _||_}
 use mathlib.Core.List.{List}
 use lib.Dec.{eqb, ltb}
 use Rattle.judging.specs.Pdu.{acceptable, maximumOf, typeOf}
-use Rattle.writing.specs.Ten.{NONE, ABORT-USER, ABORT-UNRECOGNIZED, ABORT-UNEXPECTED, ABORT-INVALID, REJECT-VERSION, RELEASE-RQ, RELEASE-RP}
+use Rattle.writing.specs.Ten.{NO-TEN, ABORT-USER, ABORT-UNRECOGNIZED, ABORT-UNEXPECTED, ABORT-INVALID, REJECT-VERSION, TEN-RELEASE-RQ, TEN-RELEASE-RP}
 use Rattle.framing.specs.Framing.{Brought, Brought.pdu, Brought.over-length}
 use Rattle.table.specs.ActionNames.{AE-1, AE-3, AE-6}
 use Rattle.table.specs.EventNames.{INVALID-RECEIVED}
@@ -70,11 +70,11 @@ abortBy event over-length = ABORT-INVALID
 
 -- what an action sends as the number of a ten-byte PDU, where `abort` is that of AA-7 and AA-8
 abbrev pub tenFor : Sends → ℕ → ℕ
-tenFor nothing abort = NONE
-tenFor (contents kind) abort = NONE
+tenFor nothing abort = NO-TEN
+tenFor (contents kind) abort = NO-TEN
 tenFor reject-version abort = REJECT-VERSION
-tenFor release-rq abort = RELEASE-RQ
-tenFor release-rp abort = RELEASE-RP
+tenFor release-rq abort = TEN-RELEASE-RQ
+tenFor release-rp abort = TEN-RELEASE-RP
 tenFor abort-user abort = ABORT-USER
 tenFor abort-provider abort = abort
 

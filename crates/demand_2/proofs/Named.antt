@@ -13,7 +13,7 @@ use Rattle.laws.proofs.Booleans.{T-left, T-right}
 use Rattle.octets.specs.Octets.{be16, be32}
 use Rattle.reasons.specs.Values.{rejectReasons, rejectOk, abortOk}
 use Rattle.judging.specs.Pdu.{whole, validAs, rejectPduOk, releaseOk, abortPduOk, kindOf}
-use Rattle.writing.specs.Ten.{NONE, ABORT-UNRECOGNIZED, ABORT-UNEXPECTED, ABORT-INVALID, tens, tenOf}
+use Rattle.writing.specs.Ten.{NO-TEN, ABORT-UNRECOGNIZED, ABORT-UNEXPECTED, ABORT-INVALID, tens, tenOf}
 use Rattle.table.specs.Table.{table, cellOf, isReceived}
 use Rattle.table.specs.Actions.{actions, doesOf, nextOf}
 use Rattle.table.proofs.Right.{filled, each-filled}
@@ -82,7 +82,7 @@ hasContents event = among event (2 ∷ 7 ∷ 8 ∷ 9 ∷ [])
 
 -- the kind that a local event sends: by its contents, or the action's own PDU
 abbrev pub givenKind : ℕ → ℕ → ℕ
-givenKind event action = cond (hasContents event) (getD (0 ∷ 0 ∷ 1 ∷ 0 ∷ 0 ∷ 0 ∷ 0 ∷ 2 ∷ 3 ∷ 4 ∷ []) event 0) (tenKind (tenBy action false NONE))
+givenKind event action = cond (hasContents event) (getD (0 ∷ 0 ∷ 1 ∷ 0 ∷ 0 ∷ 0 ∷ 0 ∷ 2 ∷ 3 ∷ 4 ∷ []) event 0) (tenKind (tenBy action false NO-TEN))
 
 abbrev heardRight : ℕ → Bool
 heardRight action = both (λ p. both (λ q. anyAbort (λ w. eqb (naming action p q) (tenKind (tenBy action p w)))))

@@ -16,7 +16,7 @@ use Rattle.judging.specs.Pdu.{kindOf, typeOf}
 use Rattle.judging.proofs.KindLaws.{kind-none, kind-whole, whole-length, whole-limit}
 use Rattle.framing.specs.Framing.{Frame, frame, Frame.short, Frame.long, Frame.whole}
 use Rattle.framing.specs.Engine as eng
-use Rattle.writing.specs.Ten.{NONE, ABORT-INVALID, tenOf}
+use Rattle.writing.specs.Ten.{NO-TEN, ABORT-INVALID, tenOf}
 use Rattle.writing.specs.Form.{Form, formRefusal, sentBytes, rqForm, acForm, rejectForm, dataForm}
 use Rattle.writing.proofs.FormLaws.{answered}
 use Rattle.round_trips.proofs.SentTrip.{sent-rq, sent-ac, sent-reject, sent-data}
@@ -119,7 +119,7 @@ gives a (plain n) action room c z = by (hasContents n) refl z
   where
     by : (b : Bool) → hasContents n ≡ b → formRefusal (formOf action (cond b bad own)) room ≡ 0 → Gives (plain n) action (formOf action (cond b bad own) .pdu)
     by true q z = never false refl (answered (formOf action bad) room z .good)
-    by false q z = let t = ten (tenBy action false NONE) in record { kind = rw q (t .kind); none = rw q (t .none); reads = c ∙ q }
+    by false q z = let t = ten (tenBy action false NO-TEN) in record { kind = rw q (t .kind); none = rw q (t .none); reads = c ∙ q }
 gives a (confirm f) action room c z = let t = rw (sends-pdu (rqForm f) room z) at (sent-rq room f z) in record { kind = t .kind; none = λ n. absurd (omega arith); reads = t }
 gives a (accept f) action room c z = let t = rw (sends-pdu (acForm f) room z) at (sent-ac room f z) in record { kind = t .kind; none = λ n. absurd (omega arith); reads = t }
 gives a (reject f) action room c z = let t = rw (sends-pdu (rejectForm f) room z) at (sent-reject room f z) in record { kind = t .kind; none = λ n. absurd (omega arith); reads = t }

@@ -1,6 +1,5 @@
 -- Any two permitted answers agree, for each public function, and so do the contents of the lent buffer.
 -- Assumes nothing.
-use mathlib.Core.Path.{_≡_}
 use denote.Ref.{now}
 use Rattle.laws.proofs.Agree.{agree, Agrees, AgreesLent}
 use Rattle.octets.proofs.byte_at as byte-at

@@ -2,17 +2,16 @@
 -- Assumes nothing.
 use Prim.Native.Nat.{ℕ, _+_, _-_, _<_, _≤_}
 use mathlib.Core.Path.{_≡_, refl, sym, _∙_, ap}
-use mathlib.Core.Bool.{true, false}
-use mathlib.Core.List.{List, [], _∷_, _++_, append-assoc}
+use mathlib.Core.List.{List, [], _++_, append-assoc}
 use lib.ListN.{length, take, drop, getD, set, length-append, length-drop, take-append-drop}
 use lib.Seq.{paste, paste-zero, paste-suc, length-take-le, take-all, take-at, drop-at, drop-drop}
-use lib.Dec.{leb}
 use native.Mathlib.Nat.{add-zero, zero-add}
 use native.Mathlib.Omega.{arith}
 use native.Mathlib.Numerals.{add-one}
 use borrow.Author.Needs.{needs}
 use borrow.Author.Tests.{le-leb, lt-leb}
 use Rattle.octets.specs.Put.{put, front, placed, placeBehind, Placed}
+use Rattle.octets.specs.Private.Put.{Put}
 
 -- ---- where there is room, or not
 module _ (o : List ℕ) (at : ℕ) (bs : List ℕ) where
@@ -39,6 +38,9 @@ module _ (o : List ℕ) (at : ℕ) (bs : List ℕ) where
   pub put-behind : {r : ℕ} {o′ : List ℕ} → Placed o at bs r o′ → at + length bs ≤ length o → r ≡ at + length bs
   put-behind p h = p .behind ∙ behind-fits h
 
+  pub placed-put : {r : ℕ} {o′ : List ℕ} → Placed o at bs r o′ → at + length bs ≤ length o → Put o at bs r o′
+  placed-put p h = record { behind = put-behind p h; out = put-out p h }
+
 -- ---- the length stays; two puts, one behind the other, are one
 pub put-length : (o : List ℕ) (at : ℕ) (a : List ℕ) → at + length a ≤ length o → length (put o at a) ≡ length o
 unfolding put
@@ -64,6 +66,26 @@ put-put o at a b h =
 pub put-none : (o : List ℕ) (at : ℕ) → put o at [] ≡ o
 unfolding put
 put-none o at = rw (add-zero at) (take-append-drop at o)
+
+pub put-nothing : (o : List ℕ) (at : ℕ) → Put o at [] at o
+put-nothing o at = record { behind = omega arith; out = sym (put-none o at) }
+
+-- a, and b behind it
+module _ (o : List ℕ) (at : ℕ) (a b o₁ : List ℕ) (m : ℕ) (h : at + (length a + length b) ≤ length o) where
+  module _ (p : Put o at a m o₁) where
+    pub next-room : m + length b ≤ length o₁
+    next-room = let k = ap length (p .out) ∙ put-length o at a (omega arith) in let l = p .behind in omega arith
+
+    pub next-put : {r : ℕ} {o₂ : List ℕ} → Put o₁ m b r o₂ → Put o at (a ++ b) r o₂
+    next-put q =
+        let l = p .behind in
+        let j = q .behind in
+        record { behind = simp length-append (omega arith); out = q .out ∙ (rw (p .out, l) (put-put o at a b (omega arith))) }
+
+  pub placed-next : {r : ℕ} {o₂ : List ℕ} → Placed o at a m o₁ → Placed o₁ m b r o₂ → Put o at (a ++ b) r o₂
+  placed-next p q =
+      let w = placed-put o at a p (omega arith) in
+      next-put w (placed-put o₁ m b q (next-room w))
 
 -- at the start
 pub put-front : (o bs : List ℕ) → put o 0 bs ≡ front o bs

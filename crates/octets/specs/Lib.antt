@@ -1,3 +1,4 @@
 pub mod Octets
 pub mod Put
 pub mod Slice
+pub mod Private

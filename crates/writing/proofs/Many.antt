@@ -15,6 +15,8 @@ use Rattle.titles.specs.Title.{titleOk}
 use Rattle.names.proofs.NameLaws.{name-short}
 use Rattle.items.specs.Wire.{itemBytes, itemsBytes}
 use Rattle.items.proofs.WireLaws.{items-cons}
+use Rattle.numbers.specs.Refusals.{BAD-CONTENTS, LONG-PDU}
+use Rattle.numbers.specs.Lengths.{RECORD}
 use Rattle.octets.specs.Octets.{odd}
 use Rattle.sheets.specs.Contexts.{Context, contextId, contextOk, contextsOk}
 use Rattle.sheets.specs.Sheet.{recordBytes, contextRecords, sheetOf, contextsIn, proposalRecord, proposalOk}
@@ -32,7 +34,7 @@ rows : List Context → ℕ
 rows [] = 0
 rows (c ∷ cs) = length (c .transfers) + rows cs
 
-records-long : (id : ℕ) (a : List ℕ) (xs : List (List ℕ)) → length a ≤ 64 → all nameOk xs ≡ true → length (contextRecords id a xs) ≡ 132 * length xs
+records-long : (id : ℕ) (a : List ℕ) (xs : List (List ℕ)) → length a ≤ 64 → all nameOk xs ≡ true → length (contextRecords id a xs) ≡ RECORD * length xs
 unfolding contextRecords
 records-long id a [] h k = refl
 records-long id a (x ∷ xs) h k =
@@ -41,7 +43,7 @@ records-long id a (x ∷ xs) h k =
     let n = length-append (recordBytes id 0 a x) (contextRecords id a xs) in
     omega arith
 
-sheet-long : (cs : List Context) → all contextOk cs ≡ true → length (sheetOf cs) ≡ 132 * rows cs
+sheet-long : (cs : List Context) → all contextOk cs ≡ true → length (sheetOf cs) ≡ RECORD * rows cs
 unfolding sheetOf contextOk rows
 sheet-long [] k = refl
 sheet-long (c ∷ cs) k =
@@ -68,15 +70,15 @@ items-long (c ∷ cs) =
     let r = items-long cs in
     omega arith
 
-frame-long : (f : RqFields) → length (itemsBytes 0x20 (map contextBody (contextsIn (f .sheet)))) + 6 ≤ length (rqForm f .pdu)
+pdu-long : (f : RqFields) → length (itemsBytes 0x20 (map contextBody (contextsIn (f .sheet)))) + 6 ≤ length (rqForm f .pdu)
 unfolding rqForm associateBytes pduBytes associateItems rqPdu
-frame-long f =
+pdu-long f =
     let a = length-append (f .called ++ (f .calling ++ replicate 32 0)) (associateItems (rqPdu f)) in
     let b = length-append (itemBytes 0x10 (f .application)) (itemsBytes 0x20 (map contextBody (contextsIn (f .sheet))) ++ itemBytes 0x50 (joined (rqPdu f .user))) in
     let c = length-append (itemsBytes 0x20 (map contextBody (contextsIn (f .sheet)))) (itemBytes 0x50 (joined (rqPdu f .user))) in
     omega arith
 
-pub many-records : (f : RqFields) (room : ℕ) → rqGood f ≡ true → 4096 < length (f .sheet) / 132 → formRefusal (rqForm f) room ≡ 5
+pub many-records : (f : RqFields) (room : ℕ) → rqGood f ≡ true → 4096 < length (f .sheet) / RECORD → formRefusal (rqForm f) room ≡ LONG-PDU
 unfolding rqForm rqGood contextsOk
 many-records f room g h =
     let s : proposalOk (f .sheet) ≡ true = right-of (nameOk (f .application)) _ (right-of (titleOk (f .calling)) _ (right-of (titleOk (f .called)) _ g)) in
@@ -84,10 +86,10 @@ many-records f room g h =
     let l = sheet-long (contextsIn (f .sheet)) k in
     let b = ap length (proposal-back (f .sheet) s) in
     let i = items-long (contextsIn (f .sheet)) in
-    let n = frame-long f in
+    let n = pdu-long f in
     refusal-5 (rqForm f) room g (omega arith)
 
 -- whatever the other records, and however many
-pub one-bad-record : (f : RqFields) (room k : ℕ) → 132 * k + 132 ≤ length (f .sheet) → proposalRecord (recordAt (f .sheet) (132 * k)) ≡ false → formRefusal (rqForm f) room ≡ 4
+pub one-bad-record : (f : RqFields) (room k : ℕ) → RECORD * k + RECORD ≤ length (f .sheet) → proposalRecord (recordAt (f .sheet) (RECORD * k)) ≡ false → formRefusal (rqForm f) room ≡ BAD-CONTENTS
 unfolding rqForm rqGood
 one-bad-record f room k h e = refusal-4 (rqForm f) room (simp (bad-record (f .sheet) k h e, and-false))

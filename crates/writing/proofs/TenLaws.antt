@@ -3,85 +3,57 @@
 use Prim.Native.Nat.{ℕ, zero, suc, _≤_, _<_}
 use native.Mathlib.Nat.{zero-add}
 use native.Mathlib.Omega.{arith}
-use mathlib.Core.Bool.{Bool, true, false, not}
+use mathlib.Core.Bool.{Bool, true, false}
 use mathlib.Core.List.{List, [], _∷_}
 use mathlib.Core.Path.{_≡_, refl, sym, ap, _∙_}
-use lib.ListN.{length, set, List·getD-eq-default}
+use lib.ListN.{length, List·getD-eq-default}
 use lib.Dec.{leb, eqb}
 use borrow.Author.Needs.{needs}
-use borrow.Author.Tests.{eq-eqb, ne-eqb, eqb-true, eqb-false, leb-true, leb-false, not-true, not-false}
+use borrow.Author.Tests.{eq-eqb, ne-eqb, eqb-true, eqb-false, leb-true, leb-false}
+use Rattle.laws.proofs.Booleans.{holds}
+use Rattle.laws.proofs.Below.{below}
+use Rattle.numbers.specs.Refusals.{NOT-REFUSED, SHORT-OUTPUT}
+use Rattle.numbers.specs.Lengths.{TEN}
 use Rattle.octets.specs.Put.{front, Placed}
-use Rattle.octets.proofs.PutLaws.{put-none, put-out, put-behind, put-front, placed-fits, behind-fits}
-use Rattle.reasons.specs.Values.{rejectOk, abortOk}
-use Rattle.writing.specs.Fields.{rejectOf, abortOf, rejectGood, abortGood}
-use Rattle.writing.specs.Ten.{tens, tenOf, rejectBytes, abortBytes}
-use Rattle.writing.specs.Form.{formRefusal, Wrote, rejectForm, releaseRqForm, releaseRpForm, abortForm}
-use Rattle.writing.specs.Private.Put.{Put, tenForm}
+use Rattle.octets.proofs.PutLaws.{put-none, put-out, put-behind, put-front, placed-put, placed-fits, behind-fits}
+use Rattle.reasons.specs.Values.{abortOk}
+use Rattle.writing.specs.Fields.{abortOf, abortGood}
+use Rattle.writing.specs.Ten.{NO-TEN, TEN-RELEASE-RP, tens, tenOf}
+use Rattle.writing.specs.Form.{formRefusal, Wrote, goodForm}
 use Rattle.writing.specs.declared.Sent.{Sent}
-use Rattle.writing.proofs.FormLaws.{refusal-0, refusal-2, wrote-bad, wrote-short, wrote-fine}
+use Rattle.writing.proofs.FormLaws.{refusal-0, refusal-2, wrote-short, wrote-fine}
 
 -- ---- `ten_of`
-module _ (w : ℕ) where
-  pub ten-1 : w ≡ 1 → 0x07 ∷ 0 ∷ 0 ∷ 0 ∷ 0 ∷ 4 ∷ 0 ∷ 0 ∷ 0 ∷ 0 ∷ [] ≡ tenOf w
-  unfolding tenOf tens
-  ten-1 e = rw e
+pub ten-is : (n w : ℕ) → w ≡ n → tenOf n ≡ tenOf w
+ten-is n w e = ap tenOf (sym e)
 
-  pub ten-2 : w ≡ 2 → 0x07 ∷ 0 ∷ 0 ∷ 0 ∷ 0 ∷ 4 ∷ 0 ∷ 0 ∷ 2 ∷ 1 ∷ [] ≡ tenOf w
-  unfolding tenOf tens
-  ten-2 e = rw e
+pub ten-last : (w : ℕ) → 1 ≤ w → w ≤ 7 → (w ≡ 1 → ⊥) → (w ≡ 2 → ⊥) → (w ≡ 3 → ⊥) → (w ≡ 4 → ⊥) → (w ≡ 5 → ⊥) → (w ≡ 6 → ⊥) → tenOf TEN-RELEASE-RP ≡ tenOf w
+ten-last w h l a b c d e f = ten-is TEN-RELEASE-RP w (omega arith)
 
-  pub ten-3 : w ≡ 3 → 0x07 ∷ 0 ∷ 0 ∷ 0 ∷ 0 ∷ 4 ∷ 0 ∷ 0 ∷ 2 ∷ 2 ∷ [] ≡ tenOf w
-  unfolding tenOf tens
-  ten-3 e = rw e
-
-  pub ten-4 : w ≡ 4 → 0x07 ∷ 0 ∷ 0 ∷ 0 ∷ 0 ∷ 4 ∷ 0 ∷ 0 ∷ 2 ∷ 6 ∷ [] ≡ tenOf w
-  unfolding tenOf tens
-  ten-4 e = rw e
-
-  pub ten-5 : w ≡ 5 → 0x03 ∷ 0 ∷ 0 ∷ 0 ∷ 0 ∷ 4 ∷ 0 ∷ 1 ∷ 2 ∷ 2 ∷ [] ≡ tenOf w
-  unfolding tenOf tens
-  ten-5 e = rw e
-
-  pub ten-6 : w ≡ 6 → 0x05 ∷ 0 ∷ 0 ∷ 0 ∷ 0 ∷ 4 ∷ 0 ∷ 0 ∷ 0 ∷ 0 ∷ [] ≡ tenOf w
-  unfolding tenOf tens
-  ten-6 e = rw e
-
-  pub ten-7 : 1 ≤ w → w ≤ 7 → (w ≡ 1 → ⊥) → (w ≡ 2 → ⊥) → (w ≡ 3 → ⊥) → (w ≡ 4 → ⊥) → (w ≡ 5 → ⊥) → (w ≡ 6 → ⊥) → 0x06 ∷ 0 ∷ 0 ∷ 0 ∷ 0 ∷ 4 ∷ 0 ∷ 0 ∷ 0 ∷ 0 ∷ [] ≡ tenOf w
-  unfolding tenOf tens
-  ten-7 h l a b c d e f = let x : w ≡ 7 = omega arith in rw x
-
-pub ruleset ten-laws = (needs, ten-1, ten-2, ten-3, ten-4, ten-5, ten-6, ten-7)
-
--- ---- `ten_len`, `write_ten`
-pub ten-none : (w : ℕ) → w ≡ 0 → tenOf w ≡ []
+-- ---- `ten_len`: each of the seven has ten bytes
+pub len-none : (w : ℕ) → w ≡ NO-TEN → 0 ≡ length (tenOf w)
 unfolding tenOf tens
-ten-none w e = rw e
+len-none w e = rw e
 
-pub ten-past : (w : ℕ) → 7 < w → tenOf w ≡ []
+pub len-past : (w : ℕ) → TEN-RELEASE-RP < w → 0 ≡ length (tenOf w)
 unfolding tenOf tens
-ten-past w h = List·getD-eq-default tens [] h
+len-past w h = ap length (sym (List·getD-eq-default tens [] h))
 
--- each of the seven has ten bytes
-pub ten-long : (w : ℕ) → (w ≡ 0 → ⊥) → w ≤ 7 → length (tenOf w) ≡ 10
+pub len-ten : (w : ℕ) → (w ≡ NO-TEN → ⊥) → w ≤ TEN-RELEASE-RP → TEN ≡ length (tenOf w)
 unfolding tenOf tens
-ten-long zero n l = absurd (n refl)
-ten-long (suc zero) n l = refl
-ten-long (suc (suc zero)) n l = refl
-ten-long (suc (suc (suc zero))) n l = refl
-ten-long (suc (suc (suc (suc zero)))) n l = refl
-ten-long (suc (suc (suc (suc (suc zero))))) n l = refl
-ten-long (suc (suc (suc (suc (suc (suc zero)))))) n l = refl
-ten-long (suc (suc (suc (suc (suc (suc (suc zero))))))) n l = refl
-ten-long (suc (suc (suc (suc (suc (suc (suc (suc w)))))))) n l = absurd (omega arith)
+len-ten zero n l = absurd (n refl)
+len-ten (suc w) n l = eqb-true _ _ (holds _ (below 7 (λ k. eqb TEN (length (tenOf (suc k)))) tt w (omega arith)))
+
+pub ruleset len-laws = (needs, len-none, len-past, len-ten)
 
 -- no number has more
-pub ten-length : (w : ℕ) → length (tenOf w) ≤ 10
-ten-length w = go (eqb w 0) refl (leb w 7) refl
+pub ten-length : (w : ℕ) → length (tenOf w) ≤ TEN
+ten-length w = go (eqb w NO-TEN) refl (leb w TEN-RELEASE-RP) refl
   where
-    go : (a : Bool) → eqb w 0 ≡ a → (b : Bool) → leb w 7 ≡ b → length (tenOf w) ≤ 10
-    go true p b q = rw (ten-none w (eqb-true _ _ p)) (omega arith)
-    go false p true q = omega (arith, ten-long w (eqb-false _ _ p) (leb-true _ _ q))
-    go false p false q = rw (ten-past w (leb-false _ _ q)) (omega arith)
+    go : (a : Bool) → eqb w NO-TEN ≡ a → (b : Bool) → leb w TEN-RELEASE-RP ≡ b → length (tenOf w) ≤ TEN
+    go true p b q = omega (arith, len-none w (eqb-true _ _ p))
+    go false p true q = omega (arith, len-ten w (eqb-false _ _ p) (leb-true _ _ q))
+    go false p false q = omega (arith, len-past w (leb-false _ _ q))
 
 -- ---- what `write_ten` leaves where there is room: the bytes at the start
 module _ (w : ℕ) (o o′ : List ℕ) (n : ℕ) (P : Placed o 0 (tenOf w) n o′) (h : length (tenOf w) ≤ length o) where
@@ -93,39 +65,27 @@ module _ (w : ℕ) (o o′ : List ℕ) (n : ℕ) (P : Placed o 0 (tenOf w) n o�
 
 -- ---- a ten-byte PDU with no contents of the host's, or none, gets 2 or nothing
 module _ (w room : ℕ) where
-  pub own-short : room < length (tenOf w) → formRefusal (record { good = true; most = 16384; pdu = tenOf w }) room ≡ 2
-  own-short h = refusal-2 (record { good = true; most = 16384; pdu = tenOf w }) room refl (omega (arith, ten-length w)) h
+  pub own-short : room < length (tenOf w) → formRefusal (goodForm (tenOf w)) room ≡ SHORT-OUTPUT
+  own-short h = refusal-2 (goodForm (tenOf w)) room refl (omega (arith, ten-length w)) h
 
-  pub own-fine : length (tenOf w) ≤ room → formRefusal (record { good = true; most = 16384; pdu = tenOf w }) room ≡ 0
-  own-fine h = refusal-0 (record { good = true; most = 16384; pdu = tenOf w }) room refl (omega (arith, ten-length w)) h
+  pub own-fine : length (tenOf w) ≤ room → formRefusal (goodForm (tenOf w)) room ≡ NOT-REFUSED
+  own-fine h = refusal-0 (goodForm (tenOf w)) room refl (omega (arith, ten-length w)) h
 
-module _ (w : ℕ) where
-  pub len-none : w ≡ 0 → 0 ≡ length (tenOf w)
-  len-none e = sym (ap length (ten-none w e))
+-- ---- `write_ten`: a number that has bytes is one of the seven
+pub some-ten : (w n : ℕ) → n ≡ length (tenOf w) → (n ≡ 0 → ⊥) → 1 ≤ w
+some-ten zero n e k = absurd (k (e ∙ sym (len-none zero refl)))
+some-ten (suc w) n e k = omega arith
 
-  pub len-past : 7 < w → 0 ≡ length (tenOf w)
-  len-past h = sym (ap length (ten-past w h))
-
-  pub len-ten : (w ≡ 0 → ⊥) → w ≤ 7 → 10 ≡ length (tenOf w)
-  len-ten n l = sym (ten-long w n l)
-
-pub ruleset len-laws = (needs, len-none, len-past, len-ten)
+pub within-seven : (w n : ℕ) → n ≡ length (tenOf w) → (n ≡ 0 → ⊥) → w ≤ TEN-RELEASE-RP
+within-seven w n e k = go (leb w TEN-RELEASE-RP) refl
+  where
+    go : (b : Bool) → leb w TEN-RELEASE-RP ≡ b → w ≤ TEN-RELEASE-RP
+    go true q = leb-true w _ q
+    go false q = absurd (k (e ∙ sym (len-past w (leb-false w _ q))))
 
 no-bytes : (l : List ℕ) → length l ≡ 0 → l ≡ []
 no-bytes [] e = refl
 no-bytes (x ∷ l) e = absurd (omega arith)
-
--- a number that has bytes is one of the seven
-pub some-ten : (w n : ℕ) → n ≡ length (tenOf w) → (n ≡ 0 → ⊥) → 1 ≤ w
-some-ten zero n e k = absurd (k (e ∙ ap length (ten-none zero refl)))
-some-ten (suc w) n e k = omega arith
-
-pub within-seven : (w n : ℕ) → n ≡ length (tenOf w) → (n ≡ 0 → ⊥) → w ≤ 7
-within-seven w n e k = go (leb w 7) refl
-  where
-    go : (b : Bool) → leb w 7 ≡ b → w ≤ 7
-    go true q = leb-true w 7 q
-    go false q = absurd (k (e ∙ ap length (ten-past w (leb-false w 7 q))))
 
 module _ (o : List ℕ) where
   nothing-placed : Placed o 0 [] 0 o
@@ -140,41 +100,22 @@ module _ (o : List ℕ) where
 pub ruleset placed-ten-laws = (needs, some-ten, within-seven, placed-none, placed-ten)
 
 -- ---- `send`
-module _ (o t : List ℕ) (e : length t ≡ 10) where
-  pub send-short : length o < 10 → Wrote (tenForm t) o (record { refusal = 2; count = 0 }) o
-  unfolding tenForm
-  send-short h = wrote-short (tenForm t) o refl (omega arith) (omega arith)
+module _ (o t : List ℕ) (e : length t ≡ TEN) where
+  pub send-short : length o < TEN → Wrote (goodForm t) o (record { refusal = SHORT-OUTPUT; count = 0 }) o
+  send-short h = wrote-short (goodForm t) o refl (omega arith) (omega arith)
 
-  pub send-fine : (o′ : List ℕ) (r : ℕ) → 10 ≤ length o → Put o 0 t r o′ → Wrote (tenForm t) o (record { refusal = 0; count = r }) o′
-  unfolding tenForm
-  send-fine o′ r h p = wrote-fine (tenForm t) o refl (omega arith) o′ r (omega arith) p
+  pub send-fine : (o′ : List ℕ) (r : ℕ) → TEN ≤ length o → Placed o 0 t r o′ → Wrote (goodForm t) o (record { refusal = NOT-REFUSED; count = r }) o′
+  send-fine o′ r h p = wrote-fine (goodForm t) o refl (omega arith) o′ r (omega arith) (placed-put o 0 t p (omega arith))
 
 pub ruleset send-laws = (needs, send-short, send-fine)
 
--- ---- `write_reject`
-module _ (result source reason : ℕ) (o : List ℕ) (b : Bool) (e : b ≡ rejectOk result source reason) where
-  pub reject-refused : not b ≡ true → Wrote (rejectForm (rejectOf result source reason)) o (record { refusal = 4; count = 0 }) o
-  unfolding rejectForm rejectGood
-  reject-refused t = wrote-bad (rejectForm (rejectOf result source reason)) o (sym e ∙ not-true b t)
+-- ---- `send_fixed`
+pub fixed-wrote : (w : ℕ) (o p o′ : List ℕ) (r : Sent) → p ≡ tenOf w → Wrote (goodForm p) o r o′ → Wrote (goodForm (tenOf w)) o r o′
+fixed-wrote w o p o′ r q x = rw q at x
 
-  pub reject-wrote : (p o′ : List ℕ) (r : Sent) → not b ≡ false → p ≡ tenOf 5 → Wrote (tenForm (set (set (set p 7 result) 8 source) 9 reason)) o r o′ → Wrote (rejectForm (rejectOf result source reason)) o r o′
-  unfolding rejectForm rejectGood tenForm rejectBytes tenOf tens
-  reject-wrote p o′ r t q w = rw (← e, not-false b t) (rw q at w)
+pub ruleset fixed-laws = (needs, fixed-wrote)
 
-pub ruleset reject-laws = (needs, reject-refused, reject-wrote)
-
--- ---- `write_release_request`, `write_release_response`
-pub release-rq : (o p o′ : List ℕ) (r : Sent) → p ≡ tenOf 6 → Wrote (tenForm p) o r o′ → Wrote releaseRqForm o r o′
-unfolding tenForm releaseRqForm
-release-rq o p o′ r q w = rw q at w
-
-pub release-rp : (o p o′ : List ℕ) (r : Sent) → p ≡ tenOf 7 → Wrote (tenForm p) o r o′ → Wrote releaseRpForm o r o′
-unfolding tenForm releaseRpForm
-release-rp o p o′ r q w = rw q at w
-
-pub ruleset release-laws = (needs, release-rq, release-rp)
-
--- ---- `abort_good`, `write_abort`
+-- ---- `abort_good`
 pub abort-zero : (source reason : ℕ) → source ≡ 0 → eqb reason 0 ≡ abortGood (abortOf source reason)
 unfolding abortGood
 abort-zero source reason e = simp (eq-eqb source 0 e)
@@ -184,14 +125,3 @@ unfolding abortGood
 abort-other source reason b n e = e ∙ simp (ne-eqb source 0 n)
 
 pub ruleset abort-good-laws = (needs, abort-zero, abort-other)
-
-module _ (source reason : ℕ) (o : List ℕ) (b : Bool) (e : b ≡ abortGood (abortOf source reason)) where
-  pub abort-refused : not b ≡ true → Wrote (abortForm (abortOf source reason)) o (record { refusal = 4; count = 0 }) o
-  unfolding abortForm
-  abort-refused t = wrote-bad (abortForm (abortOf source reason)) o (sym e ∙ not-true b t)
-
-  pub abort-wrote : (p o′ : List ℕ) (r : Sent) → not b ≡ false → p ≡ tenOf 1 → Wrote (tenForm (set (set p 8 source) 9 reason)) o r o′ → Wrote (abortForm (abortOf source reason)) o r o′
-  unfolding abortForm tenForm abortBytes tenOf tens
-  abort-wrote p o′ r t q w = rw (← e, not-false b t) (rw q at w)
-
-pub ruleset abort-laws = (needs, abort-refused, abort-wrote)

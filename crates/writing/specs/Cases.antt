@@ -4,6 +4,7 @@ use mathlib.Core.Path.{_≡_}
 use mathlib.Core.List.{[], _++_}
 use lib.ListN.{length, replicate}
 use Rattle.laws.specs.Text.{bytes}
+use Rattle.numbers.specs.Refusals.{NOT-REFUSED, SHORT-OUTPUT}
 use Rattle.octets.specs.Octets.{be32}
 use Rattle.sheets.specs.Sheet.{recordBytes}
 use Rattle.writing.specs.Fields.{RqFields, AcFields}
@@ -31,9 +32,9 @@ accepting =
 pub record Case3 : Type 0 where
   pub rq-length : be32 (rqForm asking .pdu) 2 ≡ 155
   pub rq-bytes : length (rqForm asking .pdu) ≡ 161
-  pub rq-sent : formRefusal (rqForm asking) 161 ≡ 0
-  pub rq-short : formRefusal (rqForm asking) 160 ≡ 2
+  pub rq-sent : formRefusal (rqForm asking) 161 ≡ NOT-REFUSED
+  pub rq-short : formRefusal (rqForm asking) 160 ≡ SHORT-OUTPUT
   pub ac-length : be32 (acForm accepting .pdu) 2 ≡ 134
   pub ac-bytes : length (acForm accepting .pdu) ≡ 140
-  pub ac-sent : formRefusal (acForm accepting) 140 ≡ 0
-  pub ac-short : formRefusal (acForm accepting) 139 ≡ 2
+  pub ac-sent : formRefusal (acForm accepting) 140 ≡ NOT-REFUSED
+  pub ac-short : formRefusal (acForm accepting) 139 ≡ SHORT-OUTPUT

@@ -7,9 +7,12 @@ use mathlib.Core.List.{List, [], _∷_}
 use lib.ListN.{length}
 use lib.Dec.{leb, ltb, eqb}
 use Rattle.laws.specs.Refusals.{firstDue}
+use Rattle.numbers.specs.Refusals.{NOT-REFUSED, SHORT-OUTPUT, BAD-CONTENTS, LONG-PDU}
+use Rattle.numbers.specs.Kinds.{DATA-TF}
+use Rattle.numbers.specs.Lengths.{HEADER, LONGEST}
 use Rattle.octets.specs.Put.{front}
 use Rattle.writing.specs.Fields.{RqFields, AcFields, Reject, Items, Abort, rqGood, acGood, rejectGood, itemsGood, abortGood}
-use Rattle.writing.specs.Ten.{tenOf, RELEASE-RQ, RELEASE-RP, rejectBytes, abortBytes}
+use Rattle.writing.specs.Ten.{tenOf, TEN-RELEASE-RQ, TEN-RELEASE-RP, rejectBytes, abortBytes}
 use Rattle.writing.specs.Wire.{pduBytes, associateBytes, rqPdu, acPdu}
 use Rattle.writing.specs.declared.Sent.{Sent}
 
@@ -19,21 +22,25 @@ pub record Form : Type 0 where
   pub most : ℕ
   pub pdu : List ℕ
 
--- 4: "bad contents"; 5: "PDU-length to be sent above 16,384, or a P-DATA-TF's above a non-zero peer maximum"; 2: "output too short". "Output room is the PDU-length plus 6."
+-- of good contents, or none of the host's
+abbrev pub goodForm : List ℕ → Form
+goodForm pdu = record { good = true; most = LONGEST; pdu = pdu }
+
+-- "Output room is the PDU-length plus 6."
 abbrev pub formTests : Form → ℕ → List (Bool × ℕ)
 formTests f room =
-    (not (f .good), 4)
-    ∷ (ltb (f .most) (length (f .pdu) - 6), 5)
-    ∷ (ltb room (length (f .pdu)), 2)
+    (not (f .good), BAD-CONTENTS)
+    ∷ (ltb (f .most) (length (f .pdu) - HEADER), LONG-PDU)
+    ∷ (ltb room (length (f .pdu)), SHORT-OUTPUT)
     ∷ []
 
--- the first of them that holds, 0 where none does
+-- the first of them that holds
 unfoldable pub formRefusal : Form → ℕ → ℕ
 formRefusal f room = firstDue (formTests f room)
 
 -- the bytes sent: none where the call is refused
 unfoldable pub sentBytes : Form → ℕ → List ℕ
-sentBytes f room = cond (eqb (formRefusal f room) 0) (f .pdu) []
+sentBytes f room = cond (eqb (formRefusal f room) NOT-REFUSED) (f .pdu) []
 
 unfoldable pub sentOf : Form → ℕ → Sent
 sentOf f room = record { refusal = formRefusal f room; count = length (sentBytes f room) }
@@ -46,26 +53,26 @@ pub record Wrote (f : Form) (o : List ℕ) (r : Sent) (o′ : List ℕ) : Type 0
 -- ---- the seven
 
 unfoldable pub rqForm : RqFields → Form
-rqForm f = record { good = rqGood f; most = 16384; pdu = associateBytes (rqPdu f) }
+rqForm f = record { good = rqGood f; most = LONGEST; pdu = associateBytes (rqPdu f) }
 
 unfoldable pub acForm : AcFields → Form
-acForm f = record { good = acGood f; most = 16384; pdu = associateBytes (acPdu f) }
+acForm f = record { good = acGood f; most = LONGEST; pdu = associateBytes (acPdu f) }
 
 unfoldable pub rejectForm : Reject → Form
-rejectForm f = record { good = rejectGood f; most = 16384; pdu = rejectBytes (f .result) (f .source) (f .reason) }
+rejectForm f = record { good = rejectGood f; most = LONGEST; pdu = rejectBytes (f .result) (f .source) (f .reason) }
 
 -- 16,384, or a lower non-zero peer maximum
 unfoldable pub mostOf : ℕ → ℕ
-mostOf peer = cond (eqb peer 0) 16384 (cond (leb peer 16384) peer 16384)
+mostOf peer = cond (eqb peer 0) LONGEST (cond (leb peer LONGEST) peer LONGEST)
 
 unfoldable pub dataForm : ℕ → Items → Form
-dataForm peer f = record { good = itemsGood f; most = mostOf peer; pdu = pduBytes 0x04 (f .items) }
+dataForm peer f = record { good = itemsGood f; most = mostOf peer; pdu = pduBytes DATA-TF (f .items) }
 
-unfoldable pub releaseRqForm : Form
-releaseRqForm = record { good = true; most = 16384; pdu = tenOf RELEASE-RQ }
+abbrev pub releaseRqForm : Form
+releaseRqForm = goodForm (tenOf TEN-RELEASE-RQ)
 
-unfoldable pub releaseRpForm : Form
-releaseRpForm = record { good = true; most = 16384; pdu = tenOf RELEASE-RP }
+abbrev pub releaseRpForm : Form
+releaseRpForm = goodForm (tenOf TEN-RELEASE-RP)
 
 unfoldable pub abortForm : Abort → Form
-abortForm f = record { good = abortGood f; most = 16384; pdu = abortBytes (f .source) (f .reason) }
+abortForm f = record { good = abortGood f; most = LONGEST; pdu = abortBytes (f .source) (f .reason) }

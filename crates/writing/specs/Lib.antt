@@ -3,4 +3,3 @@ pub mod Ten
 pub mod Wire
 pub mod Form
 pub mod Cases
-pub mod Private

@@ -2,10 +2,10 @@
 use Prim.Native.Nat.{ℕ}
 use mathlib.Core.List.{List, [], _∷_}
 use lib.ListN.{getD}
+use Rattle.numbers.specs.Kinds.{ASSOCIATE-RJ, RELEASE-RQ, RELEASE-RP, ABORT}
 
--- 0 is none
-abbrev pub NONE : ℕ
-NONE = 0
+abbrev pub NO-TEN : ℕ
+NO-TEN = 0
 
 abbrev pub ABORT-USER : ℕ
 ABORT-USER = 1
@@ -22,32 +22,36 @@ ABORT-INVALID = 4
 abbrev pub REJECT-VERSION : ℕ
 REJECT-VERSION = 5
 
-abbrev pub RELEASE-RQ : ℕ
-RELEASE-RQ = 6
+abbrev pub TEN-RELEASE-RQ : ℕ
+TEN-RELEASE-RQ = 6
 
-abbrev pub RELEASE-RP : ℕ
-RELEASE-RP = 7
+abbrev pub TEN-RELEASE-RP : ℕ
+TEN-RELEASE-RP = 7
 
--- in this order
+-- a PDU-length of 4, a reserved byte, and three bytes: result, source and reason where the PDU has them, else reserved
+abbrev pub tenBytes : ℕ → ℕ → ℕ → ℕ → List ℕ
+tenBytes kind result source reason = kind ∷ 0 ∷ 0 ∷ 0 ∷ 0 ∷ 4 ∷ 0 ∷ result ∷ source ∷ reason ∷ []
+
+-- in the order of their numbers
 unfoldable pub tens : List (List ℕ)
 tens =
     []
-    ∷ (0x07 ∷ 0 ∷ 0 ∷ 0 ∷ 0 ∷ 4 ∷ 0 ∷ 0 ∷ 0 ∷ 0 ∷ [])  -- A-ABORT, source 0
-    ∷ (0x07 ∷ 0 ∷ 0 ∷ 0 ∷ 0 ∷ 4 ∷ 0 ∷ 0 ∷ 2 ∷ 1 ∷ [])  -- A-ABORT, source 2: unrecognized PDU
-    ∷ (0x07 ∷ 0 ∷ 0 ∷ 0 ∷ 0 ∷ 4 ∷ 0 ∷ 0 ∷ 2 ∷ 2 ∷ [])  -- A-ABORT, source 2: unexpected PDU
-    ∷ (0x07 ∷ 0 ∷ 0 ∷ 0 ∷ 0 ∷ 4 ∷ 0 ∷ 0 ∷ 2 ∷ 6 ∷ [])  -- A-ABORT, source 2: invalid PDU parameter value
-    ∷ (0x03 ∷ 0 ∷ 0 ∷ 0 ∷ 0 ∷ 4 ∷ 0 ∷ 1 ∷ 2 ∷ 2 ∷ [])  -- A-ASSOCIATE-RJ, result 1, source 2: protocol version not supported
-    ∷ (0x05 ∷ 0 ∷ 0 ∷ 0 ∷ 0 ∷ 4 ∷ 0 ∷ 0 ∷ 0 ∷ 0 ∷ [])  -- A-RELEASE-RQ
-    ∷ (0x06 ∷ 0 ∷ 0 ∷ 0 ∷ 0 ∷ 4 ∷ 0 ∷ 0 ∷ 0 ∷ 0 ∷ [])  -- A-RELEASE-RP
+    ∷ tenBytes ABORT 0 0 0  -- source 0
+    ∷ tenBytes ABORT 0 2 1  -- source 2: unrecognized PDU
+    ∷ tenBytes ABORT 0 2 2  -- source 2: unexpected PDU
+    ∷ tenBytes ABORT 0 2 6  -- source 2: invalid PDU parameter value
+    ∷ tenBytes ASSOCIATE-RJ 1 2 2  -- result 1, source 2: protocol version not supported
+    ∷ tenBytes RELEASE-RQ 0 0 0
+    ∷ tenBytes RELEASE-RP 0 0 0
     ∷ []
 
--- the bytes of a number: none for 0 and above 7
+-- the bytes of a number: none for NO-TEN and above the last
 unfoldable pub tenOf : ℕ → List ℕ
 tenOf which = getD tens which []
 
 -- an A-ASSOCIATE-RJ and an A-ABORT with these values
 unfoldable pub rejectBytes : ℕ → ℕ → ℕ → List ℕ
-rejectBytes result source reason = 0x03 ∷ 0 ∷ 0 ∷ 0 ∷ 0 ∷ 4 ∷ 0 ∷ result ∷ source ∷ reason ∷ []
+rejectBytes result source reason = tenBytes ASSOCIATE-RJ result source reason
 
 unfoldable pub abortBytes : ℕ → ℕ → List ℕ
-abortBytes source reason = 0x07 ∷ 0 ∷ 0 ∷ 0 ∷ 0 ∷ 4 ∷ 0 ∷ 0 ∷ source ∷ reason ∷ []
+abortBytes source reason = tenBytes ABORT 0 source reason

@@ -4,6 +4,8 @@ use Prim.Native.Nat.{ℕ}
 use mathlib.Core.List.{List, [], _∷_, _++_, map}
 use lib.ListN.{length, replicate}
 use Rattle.laws.specs.Lists.{joined}
+use Rattle.numbers.specs.Kinds.{ASSOCIATE-RQ, ASSOCIATE-AC}
+use Rattle.numbers.specs.Lengths.{LONGEST}
 use Rattle.octets.specs.Octets.{four}
 use Rattle.items.specs.Wire.{itemBytes, itemsBytes}
 use Rattle.sheets.specs.Contexts.{Context, Answered}
@@ -33,7 +35,7 @@ associateBytes f = pduBytes (f .kind) (0 ∷ 1 ∷ 0 ∷ 0 ∷ (f .middle ++ ass
 
 -- the sub-items of a 50H: our maximum length
 unfoldable pub ourUser : List (List ℕ)
-ourUser = itemBytes 0x51 (four 16384) ∷ []
+ourUser = itemBytes 0x51 (four LONGEST) ∷ []
 
 -- 20H: ID, three reserved bytes, the 30H, the 40Hs
 unfoldable pub contextBody : Context → List ℕ
@@ -47,7 +49,7 @@ answerBody c = c .id ∷ 0 ∷ c .result ∷ 0 ∷ itemBytes 0x40 (c .transfer)
 unfoldable pub rqPdu : RqFields → AssociatePdu
 rqPdu f =
     record {
-      kind = 0x01;
+      kind = ASSOCIATE-RQ;
       middle = f .called ++ (f .calling ++ replicate 32 0);
       application = f .application;
       context = 0x20;
@@ -59,7 +61,7 @@ rqPdu f =
 unfoldable pub acPdu : AcFields → AssociatePdu
 acPdu f =
     record {
-      kind = 0x02;
+      kind = ASSOCIATE-AC;
       middle = f .echoed;
       application = f .application;
       context = 0x21;

@@ -2,11 +2,11 @@
 ghost use mathlib.Core.Path.{_≡_};
 ghost use mathlib.Core.List.{_∷_};
 ghost use Prim.Native.Nat.{_≤_};
+ghost use Rattle.numbers.specs.Lengths.{LONGEST};
 ghost use Rattle.octets.specs.Octets.{four};
 ghost use Rattle.writing.specs.Fields.{itemsOf};
 ghost use Rattle.writing.specs.Form.{Wrote, mostOf, dataForm};
 use crate::Sent;
-use crate::pieces::put;
 
 // A PDU's first six bytes, with its PDU-length.
 fn header(kind: u8, n: u32) -> [u8; 6]
@@ -18,15 +18,16 @@ fn header(kind: u8, n: u32) -> [u8; 6]
 
 // The greatest PDU-length that may be sent to a peer with this maximum.
 fn most_of(peer: u32) -> usize
-    ensures { λ r. ⌜ (r ≡ mostOf peer) × (r ≤ 16384) ⌝ }
+    ensures { λ r. ⌜ (r ≡ mostOf peer) × (r ≤ LONGEST) ⌝ }
 {
-    if peer == 0 {
-        return 16384;
+    let most = peer as usize;
+    if most == 0 {
+        return numbers::LONGEST;
     }
-    if peer <= 16384 {
-        return peer as usize;
+    if most <= numbers::LONGEST {
+        return most;
     }
-    16384
+    numbers::LONGEST
 }
 
 // Writes a P-DATA-TF of PDV items in wire form to the start of the output; a peer maximum of 0 is no limit.
@@ -35,28 +36,28 @@ pub fn write_data(items: &[u8], peer: u32, out: &mut [u8]) -> Sent
 {
     if !pdvs::pdvs_ok(3, items) {
         return Sent {
-            refusal: 4,
+            refusal: numbers::BAD_CONTENTS,
             count: 0,
         };
     }
     let n = items.len();
     if most_of(peer) < n {
         return Sent {
-            refusal: 5,
+            refusal: numbers::LONG_PDU,
             count: 0,
         };
     }
-    if out.len() < n + 6 {
+    if out.len() < n + numbers::HEADER {
         return Sent {
-            refusal: 2,
+            refusal: numbers::SHORT_OUTPUT,
             count: 0,
         };
     }
-    let head = header(0x04, n as u32);
-    let e = put(out, 0, &head);
-    let k = put(out, e, items);
+    let head = header(numbers::DATA_TF, n as u32);
+    let e = octets::put(out, 0, &head);
+    let k = octets::put(out, e, items);
     Sent {
-        refusal: 0,
+        refusal: numbers::NOT_REFUSED,
         count: k,
     }
 }

@@ -2,50 +2,56 @@
 ghost use mathlib.Core.Path.{_≡_};
 ghost use Prim.Native.Nat.{_≤_};
 ghost use lib.ListN.{length};
+ghost use Rattle.numbers.specs.Lengths.{TEN};
 ghost use Rattle.octets.specs.Put.{Placed};
 ghost use Rattle.writing.specs.Fields.{rejectOf, abortOf, abortGood};
-ghost use Rattle.writing.specs.Ten.{tenOf};
-ghost use Rattle.writing.specs.Form.{Wrote, rejectForm, releaseRqForm, releaseRpForm, abortForm};
-ghost use Rattle.writing.specs.Private.Put.{tenForm};
+ghost use Rattle.writing.specs.Ten.{TEN-RELEASE-RP, tenOf};
+ghost use Rattle.writing.specs.Form.{Wrote, goodForm, rejectForm, releaseRqForm, releaseRpForm, abortForm};
 use crate::Sent;
-use crate::pieces::put;
+
+// The fixed ones by number.
+pub const NO_TEN: u8 = 0;
+
+pub const ABORT_USER: u8 = 1;
+
+pub const ABORT_UNRECOGNIZED: u8 = 2;
+
+pub const ABORT_UNEXPECTED: u8 = 3;
+
+pub const ABORT_INVALID: u8 = 4;
+
+pub const REJECT_VERSION: u8 = 5;
+
+pub const TEN_RELEASE_RQ: u8 = 6;
+
+pub const TEN_RELEASE_RP: u8 = 7;
 
 fn ten_of(which: u8) -> [u8; 10]
-    requires { ⌜ (1 ≤ which) × (which ≤ 7) ⌝ }
+    requires { ⌜ (1 ≤ which) × (which ≤ TEN-RELEASE-RP) ⌝ }
     ensures { λ r. ⌜ r ≡ tenOf which ⌝ }
 {
-    if which == 1 {
-        return *b"\x07\x00\x00\x00\x00\x04\x00\x00\x00\x00";
+    match which {
+        ABORT_USER => [numbers::ABORT, 0, 0, 0, 0, 4, 0, 0, 0, 0],
+        ABORT_UNRECOGNIZED => [numbers::ABORT, 0, 0, 0, 0, 4, 0, 0, 2, 1],
+        ABORT_UNEXPECTED => [numbers::ABORT, 0, 0, 0, 0, 4, 0, 0, 2, 2],
+        ABORT_INVALID => [numbers::ABORT, 0, 0, 0, 0, 4, 0, 0, 2, 6],
+        REJECT_VERSION => [numbers::ASSOCIATE_RJ, 0, 0, 0, 0, 4, 0, 1, 2, 2],
+        TEN_RELEASE_RQ => [numbers::RELEASE_RQ, 0, 0, 0, 0, 4, 0, 0, 0, 0],
+        _ => [numbers::RELEASE_RP, 0, 0, 0, 0, 4, 0, 0, 0, 0],
     }
-    if which == 2 {
-        return *b"\x07\x00\x00\x00\x00\x04\x00\x00\x02\x01";
-    }
-    if which == 3 {
-        return *b"\x07\x00\x00\x00\x00\x04\x00\x00\x02\x02";
-    }
-    if which == 4 {
-        return *b"\x07\x00\x00\x00\x00\x04\x00\x00\x02\x06";
-    }
-    if which == 5 {
-        return *b"\x03\x00\x00\x00\x00\x04\x00\x01\x02\x02";
-    }
-    if which == 6 {
-        return *b"\x05\x00\x00\x00\x00\x04\x00\x00\x00\x00";
-    }
-    *b"\x06\x00\x00\x00\x00\x04\x00\x00\x00\x00"
 }
 
 // How many bytes the PDU of this number has: 10, or 0 for none.
 pub fn ten_len(which: u8) -> usize
     ensures { λ r. ⌜ r ≡ length (tenOf which) ⌝ }
 {
-    if which == 0 {
+    if which == NO_TEN {
         return 0;
     }
-    if 7 < which {
+    if TEN_RELEASE_RP < which {
         return 0;
     }
-    10
+    numbers::TEN
 }
 
 // Writes the PDU of this number to the start of the output and answers how many bytes it has; where it has no room, and for no PDU, nothing is written and 0 answered.
@@ -61,18 +67,18 @@ pub fn write_ten(which: u8, out: &mut [u8]) -> usize
 
 // Writes a PDU of ten bytes with good contents.
 fn send(pdu: &[u8], out: &mut [u8]) -> Sent
-    requires { ⌜ length (now pdu) ≡ 10 ⌝ }
-    ensures { λ r. ⌜ Wrote (tenForm (now (pdu .entry))) (now (out .entry)) r (now (out .exit)) ⌝ }
+    requires { ⌜ length (now pdu) ≡ TEN ⌝ }
+    ensures { λ r. ⌜ Wrote (goodForm (now (pdu .entry))) (now (out .entry)) r (now (out .exit)) ⌝ }
 {
-    if out.len() < 10 {
+    if out.len() < numbers::TEN {
         return Sent {
-            refusal: 2,
+            refusal: numbers::SHORT_OUTPUT,
             count: 0,
         };
     }
-    let k = put(out, 0, pdu);
+    let k = octets::put(out, 0, pdu);
     Sent {
-        refusal: 0,
+        refusal: numbers::NOT_REFUSED,
         count: k,
     }
 }
@@ -83,30 +89,22 @@ pub fn write_reject(result: u8, source: u8, reason: u8, out: &mut [u8]) -> Sent
 {
     if !reasons::reject_ok(result, source, reason) {
         return Sent {
-            refusal: 4,
+            refusal: numbers::BAD_CONTENTS,
             count: 0,
         };
     }
-    let mut pdu = ten_of(5);
-    pdu[7] = result;
-    pdu[8] = source;
-    pdu[9] = reason;
-    send(&pdu, out)
-}
-
-// Writes an A-RELEASE-RQ to the start of the output.
-pub fn write_release_request(out: &mut [u8]) -> Sent
-    ensures { λ r. ⌜ Wrote releaseRqForm (now (out .entry)) r (now (out .exit)) ⌝ }
-{
-    let pdu = ten_of(6);
-    send(&pdu, out)
-}
-
-// Writes an A-RELEASE-RP to the start of the output.
-pub fn write_release_response(out: &mut [u8]) -> Sent
-    ensures { λ r. ⌜ Wrote releaseRpForm (now (out .entry)) r (now (out .exit)) ⌝ }
-{
-    let pdu = ten_of(7);
+    let pdu = [
+        numbers::ASSOCIATE_RJ,
+        0,
+        0,
+        0,
+        0,
+        4,
+        0,
+        result,
+        source,
+        reason,
+    ];
     send(&pdu, out)
 }
 
@@ -126,12 +124,32 @@ pub fn write_abort(source: u8, reason: u8, out: &mut [u8]) -> Sent
 {
     if !abort_good(source, reason) {
         return Sent {
-            refusal: 4,
+            refusal: numbers::BAD_CONTENTS,
             count: 0,
         };
     }
-    let mut pdu = ten_of(1);
-    pdu[8] = source;
-    pdu[9] = reason;
+    let pdu = [numbers::ABORT, 0, 0, 0, 0, 4, 0, 0, source, reason];
     send(&pdu, out)
+}
+
+fn send_fixed(which: u8, out: &mut [u8]) -> Sent
+    requires { ⌜ (1 ≤ which) × (which ≤ TEN-RELEASE-RP) ⌝ }
+    ensures { λ r. ⌜ Wrote (goodForm (tenOf which)) (now (out .entry)) r (now (out .exit)) ⌝ }
+{
+    let pdu = ten_of(which);
+    send(&pdu, out)
+}
+
+// Writes an A-RELEASE-RQ to the start of the output.
+pub fn write_release_request(out: &mut [u8]) -> Sent
+    ensures { λ r. ⌜ Wrote releaseRqForm (now (out .entry)) r (now (out .exit)) ⌝ }
+{
+    send_fixed(TEN_RELEASE_RQ, out)
+}
+
+// Writes an A-RELEASE-RP to the start of the output.
+pub fn write_release_response(out: &mut [u8]) -> Sent
+    ensures { λ r. ⌜ Wrote releaseRpForm (now (out .entry)) r (now (out .exit)) ⌝ }
+{
+    send_fixed(TEN_RELEASE_RP, out)
 }

@@ -1,5 +1,5 @@
-pub mod PieceLaws
+pub mod ItemLaws
 pub mod ContextLaws
-pub mod FrameLaws
+pub mod PduLaws
 pub mod AssociateLaws
 pub mod Agree

@@ -1,24 +1,25 @@
 // Writes an A-ASSOCIATE-RQ and an A-ASSOCIATE-AC, each in its one form, into a lent output.
 mod contexts;
-mod frame;
-mod pieces;
+mod item;
+mod pdu;
 
 ghost use mathlib.Core.Path.{_≡_};
 ghost use mathlib.Core.List.{_++_};
 ghost use lib.ListN.{length, replicate};
+ghost use Rattle.numbers.specs.Lengths.{TITLE};
 ghost use Rattle.writing.specs.Fields.{rqOf, acOf, rqGood, acGood};
 ghost use Rattle.writing.specs.Form.{rqForm, acForm, Wrote};
-use crate::frame::write_frame;
+use crate::pdu::write_pdu;
 use writing::Sent;
 
 // The 64 bytes behind the version of an RQ: the titles, and 32 reserved bytes.
 fn titles_of(called: &[u8], calling: &[u8]) -> [u8; 64]
-    requires { ⌜ (length (now called) ≡ 16) × (length (now calling) ≡ 16) ⌝ }
+    requires { ⌜ (length (now called) ≡ TITLE) × (length (now calling) ≡ TITLE) ⌝ }
     ensures { λ r. ⌜ r ≡ now (called .entry) ++ (now (calling .entry) ++ replicate 32 0) ⌝ }
 {
     let mut m = [0u8; 64];
     octets::put(&mut m, 0, called);
-    octets::put(&mut m, 16, calling);
+    octets::put(&mut m, numbers::TITLE, calling);
     m
 }
 
@@ -49,12 +50,12 @@ pub fn write_request(
 {
     if !request_good(called, calling, application, sheet) {
         return Sent {
-            refusal: 4,
+            refusal: numbers::BAD_CONTENTS,
             count: 0,
         };
     }
     let middle = titles_of(called, calling);
-    write_frame(false, &middle, application, sheet, out)
+    write_pdu(false, &middle, application, sheet, out)
 }
 
 fn accept_good(echoed: &[u8], application: &[u8], sheet: &[u8]) -> bool
@@ -75,9 +76,9 @@ pub fn write_accept(echoed: &[u8], application: &[u8], sheet: &[u8], out: &mut [
 {
     if !accept_good(echoed, application, sheet) {
         return Sent {
-            refusal: 4,
+            refusal: numbers::BAD_CONTENTS,
             count: 0,
         };
     }
-    write_frame(true, echoed, application, sheet, out)
+    write_pdu(true, echoed, application, sheet, out)
 }

@@ -1,17 +1,19 @@
 -- `write_request` meets its contract.
 -- Assumes nothing.
+use Rattle.writing.specs.Form.{rqForm}
 use Rattle.writing_associate.proofs.AssociateLaws.{rq-laws}
 use Rattle.writing_associate.proofs.write_request.Statement.{statement}
 use Rattle.writing_associate.proofs.write_request.Tie as tie
 
 pub write-request-spec : {M : Type 1} → statement M
+unfolding rqForm
 write-request-spec =
     tie.close
     (tie.spec
     (λ c κs. search rq-laws)  -- request-good-requires
     (λ c. search rq-laws)  -- returns
     (λ c κs. search rq-laws)  -- titles-of-requires
-    (λ c. search rq-laws)  -- slice-aggregate-write-frame
-    (λ c κs. search rq-laws)  -- write-frame-requires
+    (λ c. search rq-laws)  -- slice-aggregate-write-pdu
+    (λ c κs. search rq-laws)  -- write-pdu-requires
     (λ c. search rq-laws)  -- same-length
     (λ c. search rq-laws))  -- returns-2

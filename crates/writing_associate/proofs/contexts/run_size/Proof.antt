@@ -3,14 +3,15 @@
 use Prim.Native.Nat.{_+_, _-_, _≤_}
 use mathlib.Core.Path.{_≡_}
 use lib.ListN.{length, drop}
+use Rattle.numbers.specs.Lengths.{RECORD}
 use Rattle.sheets.specs.Sheet.{contextsIn}
-use Rattle.writing_associate.specs.Private.Frames.{runBytes}
+use Rattle.writing_associate.specs.Private.ContextItems.{runBytes}
 use Rattle.writing_associate.proofs.ContextLaws.{runAfter, run-laws}
 use Rattle.writing_associate.proofs.contexts.run_size.Statement.{statement}
 use Rattle.writing_associate.proofs.contexts.run_size.Tie as tie
 
 abbrev Inv-loop : tie.InvT-loop
-Inv-loop s from at₀ n₀ at n = (at + 132 ≤ length s) × (length (runBytes (contextsIn (drop from s))) ≡ n + runAfter s at)
+Inv-loop s from at₀ n₀ at n = (at + RECORD ≤ length s) × (length (runBytes (contextsIn (drop from s))) ≡ n + runAfter s at)
 
 abbrev μ-loop : tie.MeasureT-loop
 μ-loop s from at₀ n₀ at n = length s - at
