@@ -2,6 +2,5 @@ pub mod RefusalLaws
 pub mod OrderLaws
 pub mod EventLaws
 pub mod PerformingLaws
-pub mod MarkLaws
 pub mod Examples
 pub mod Agree

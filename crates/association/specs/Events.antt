@@ -8,8 +8,7 @@ use Rattle.numbers.specs.Kinds.{ASSOCIATE-RQ, ASSOCIATE-AC, ASSOCIATE-RJ, DATA-
 use Rattle.judging.specs.Pdu.{kindOf}
 use Rattle.writing.specs.Fields.{RqFields, AcFields, Reject, Items}
 use Rattle.table.specs.EventNames.{AC-RECEIVED, RJ-RECEIVED, RQ-RECEIVED, DATA-RECEIVED, RELEASE-RQ-RECEIVED, RELEASE-RP-RECEIVED, ABORT-RECEIVED, INVALID-RECEIVED}
-use Rattle.table.specs.EventNames.{ASSOCIATE-REQUEST, TRANSPORT-CONFIRM, TRANSPORT-INDICATION, ACCEPT-RESPONSE, REJECT-RESPONSE, DATA-REQUEST}
-use Rattle.table.specs.EventNames.{RELEASE-REQUEST, RELEASE-RESPONSE, ABORT-REQUEST, TRANSPORT-CLOSED, ARTIM-EXPIRED}
+use Rattle.table.specs.EventNames.{ASSOCIATE-REQUEST, TRANSPORT-CONFIRM, TRANSPORT-INDICATION, ACCEPT-RESPONSE, REJECT-RESPONSE, DATA-REQUEST, TRANSPORT-CLOSED}
 use Rattle.association.specs.Record.{Standing}
 
 -- ---- received
@@ -52,24 +51,12 @@ numberOf (send f) = DATA-REQUEST
 unfoldable pub carries : ℕ → Bool
 carries number = among number (TRANSPORT-CONFIRM ∷ ACCEPT-RESPONSE ∷ REJECT-RESPONSE ∷ DATA-REQUEST ∷ [])
 
--- the seven without contents
+-- three of the seven without contents
 abbrev pub associateRequest : Local
 associateRequest = plain ASSOCIATE-REQUEST
 
 abbrev pub transportIndication : Local
 transportIndication = plain TRANSPORT-INDICATION
 
-abbrev pub releaseRequest : Local
-releaseRequest = plain RELEASE-REQUEST
-
-abbrev pub releaseResponse : Local
-releaseResponse = plain RELEASE-RESPONSE
-
-abbrev pub abortRequest : Local
-abortRequest = plain ABORT-REQUEST
-
 abbrev pub transportClosed : Local
 transportClosed = plain TRANSPORT-CLOSED
-
-abbrev pub artimExpired : Local
-artimExpired = plain ARTIM-EXPIRED

@@ -1,6 +1,6 @@
 -- The machine: at each event the action of its cell of Table 9-10, and what that action does. Buffers, counts and cuts are the engine's (framing).
 use Prim.Native.Nat.{ℕ}
-use mathlib.Core.Bool.{Bool, true, false, cond}
+use mathlib.Core.Bool.{Bool, false, cond}
 use mathlib.Core.Option.{none, some}
 use mathlib.Core.List.{List, [], _∷_}
 use lib.Dec.{eqb}
@@ -12,7 +12,7 @@ use Rattle.framing.specs.Reference.{Machine, Reaction}
 use Rattle.table.specs.Actions.{showsOf}
 use Rattle.table.specs.EventNames.{INVALID-RECEIVED}
 use Rattle.table.specs.Table.{cellOf, isReceived}
-use Rattle.writing.specs.Form.{Form, formTests, rqForm, acForm, rejectForm, dataForm}
+use Rattle.writing.specs.Form.{Form, goodForm, formTests, rqForm, acForm, rejectForm, dataForm}
 use Rattle.writing.specs.Ten.{tenOf, NO-TEN}
 use Rattle.association.specs.declared.Brings.{Brings}
 use Rattle.association.specs.Record.{Standing, dropping}
@@ -57,7 +57,7 @@ unfoldable pub plainForm : ℕ → ℕ → Form
 plainForm number action =
     cond (carries number)
     (record { good = false; most = 0; pdu = [] })
-    (record { good = true; most = LONGEST; pdu = tenOf (tenBy action false NO-TEN) })
+    (goodForm (tenOf (tenBy action false NO-TEN)))
 
 -- the form of what it sends
 abbrev pub formAt : Standing → Local → Form

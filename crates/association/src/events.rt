@@ -25,15 +25,15 @@ pub fn abort_for(event: u8, first: u8) -> u8
     ensures { λ r. ⌜ r ≡ abortFor event first ⌝ }
 {
     if event != table::INVALID_RECEIVED {
-        return 3;
+        return writing::ABORT_UNEXPECTED;
     }
     if first < 1 {
-        return 2;
+        return writing::ABORT_UNRECOGNIZED;
     }
     if 7 < first {
-        return 2;
+        return writing::ABORT_UNRECOGNIZED;
     }
-    4
+    writing::ABORT_INVALID
 }
 
 // The action at a local event, by its number, in a state; 0 where its cell is blank, and for a number that is no local event's.

@@ -48,11 +48,11 @@ pub fn ten_by(action: u8, accepts: bool, abort: u8) -> u8
     ensures { λ r. ⌜ r ≡ tenBy action accepts abort ⌝ }
 {
     match table::sends(action, accepts) {
-        table::SENDS_REJECT_VERSION => 5,
-        table::SENDS_RELEASE_RQ => 6,
-        table::SENDS_RELEASE_RP => 7,
-        table::SENDS_ABORT_USER => 1,
+        table::SENDS_REJECT_VERSION => writing::REJECT_VERSION,
+        table::SENDS_RELEASE_RQ => writing::TEN_RELEASE_RQ,
+        table::SENDS_RELEASE_RP => writing::TEN_RELEASE_RP,
+        table::SENDS_ABORT_USER => writing::ABORT_USER,
         table::SENDS_ABORT_PROVIDER => abort,
-        _ => 0,
+        _ => writing::NO_TEN,
     }
 }

@@ -103,7 +103,7 @@ pub(crate) fn do_long(a: Assoc, used: usize, out: &mut [u8]) -> Answer
         peer_max: a.peer_max,
         deaf: true,
     };
-    done(action, a, b, 4, used, 0, out)
+    done(action, a, b, writing::ABORT_INVALID, used, 0, out)
 }
 
 // A whole PDU, at the last of the bytes used.

@@ -10,14 +10,14 @@ use lib.ListN.{length}
 use borrow.Author.Needs.{needs}
 use borrow.Author.Tests.{eq-eqb, ne-eqb, eqb-true, eqb-false}
 use Rattle.numbers.specs.Refusals.{NOT-REFUSED, BLANK-CELL, SHORT-OUTPUT, BAD-CONTENTS}
-use Rattle.numbers.specs.Lengths.{LONGEST}
 use Rattle.laws.proofs.Refusals.{due-both}
 use Rattle.octets.specs.Put.{front, Placed}
+use Rattle.octets.proofs.PutLaws.{placed-put}
 use Rattle.writing.specs.declared.Sent.{Sent}
-use Rattle.writing.specs.Form.{formTests, formRefusal, sentBytes, sentOf, Wrote}
+use Rattle.writing.specs.Form.{formTests, formRefusal, Wrote}
 use Rattle.writing.specs.Ten.{tenOf, NO-TEN}
-use Rattle.writing.proofs.FormLaws.{refusal-is, refused-kept, sent-count, out-is, wrote-bad, wrote-short}
-use Rattle.writing.proofs.TenLaws.{ten-length, ten-out, ten-count, own-fine}
+use Rattle.writing.proofs.FormLaws.{refusal-is, refused-kept, sent-count, out-is, wrote-bad, wrote-short, wrote-fine}
+use Rattle.writing.proofs.TenLaws.{ten-length}
 use Rattle.association.specs.declared.Assoc.{Assoc}
 use Rattle.association.specs.declared.Answer.{Answer}
 use Rattle.association.specs.Record.{standing}
@@ -78,11 +78,9 @@ module _ (number action : ℕ) (o : List ℕ) (x : Bool) (ex : x ≡ carries num
 
     pub plain-fine : (m : ℕ) (o′ : List ℕ) → n ≤ length o → Placed o 0 (tenOf ten) m o′
         → Wrote (plainForm number action) o (record { refusal = NOT-REFUSED; count = m }) o′
-    unfolding plainForm sentOf sentBytes
+    unfolding plainForm
     plain-fine m o′ h P =
-        let fits : length (tenOf ten) ≤ length o = omega arith in
-        let z : formRefusal (record { good = true; most = LONGEST; pdu = tenOf ten }) (length o) ≡ 0 = own-fine ten (length o) fits in
-        rw (← ex, f, ← et) (record { answer = rw (z, ten-count ten o o′ m P fits); out = ten-out ten o o′ m P fits ∙ rw z })
+        rw (← ex, f, ← et) (wrote-fine _ o refl (omega (arith, ten-length ten)) o′ m (omega arith) (placed-put o 0 (tenOf ten) P (omega arith)))
 
 pub ruleset plain-laws = (needs, plain-bad, plain-short, plain-fine)
 

@@ -76,7 +76,7 @@ fn write_plain(number: u8, action: u8, out: &mut [u8]) -> Sent
             count: 0,
         };
     }
-    let ten = association::ten_by(action, false, 0);
+    let ten = association::ten_by(action, false, writing::NO_TEN);
     if out.len() < writing::ten_len(ten) {
         return Sent {
             refusal: numbers::SHORT_OUTPUT,
