@@ -19,8 +19,7 @@ use Rattle.judging.specs.Pdu.{whole, requestOk, dataOk, releaseOk, abortPduOk, 
 use Rattle.writing.specs.Ten.{tens, tenOf}
 use Rattle.framing.specs.Framing.{lengthField, frame}
 use Rattle.framing.specs.Engine as eng
-use Rattle.table.specs.Table.{table, cellOf}
-use Rattle.table.specs.Actions.{actions, doesOf, nextOf, showsOf, artimOf}
+use Rattle.table.proofs.Unfolded.{table-unfolded}
 use Rattle.association.specs.Record.{dropping, timed, strayState, overfull, strayDeaf, mistimed, badLength, markedIdle, clauses, broken}
 use Rattle.association.specs.Refusals.{recordRefusal}
 use Rattle.association.specs.Events.{eventOfKind, eventOf}
@@ -29,6 +28,27 @@ use Rattle.association.specs.Machine.{doing, onEvent}
 use Rattle.association.specs.Calls.{receiveRefusal, heard, receiveOf}
 use Rattle.cases.specs.Cases.{Row, cases, gives}
 
+-- ---- what is computed, by its subject: to unfold one of these is to unfold what its line names
+calls : Unit {0}
+unfolding receiveOf receiveRefusal heard recordRefusal broken clauses strayState overfull strayDeaf mistimed badLength markedIdle timed dropping
+calls = tt
+
+frames : Unit {0}
+unfolding eng.receive frame lengthField be32 be16 put front
+frames = tt
+
+machine : Unit {0}
+unfolding onEvent doing eventOf eventOfKind after entering requestorAfter peerAt acceptsAt abortFor tenBy tenOf tens table-unfolded
+machine = tt
+
+items : Unit {0}
+unfolding step walkIn walk filled bodies types only goodBodies holds subsOk good20H one userGood good50H contextGood topGood topOk ids itemsOk maximumIn pdvStep pdvsIn pdvs pdvOk pdvsOk among distinct
+items = tt
+
+pdus : Unit {0}
+unfolding kindOf acceptable maximumOf whole validAs requestOk dataOk releaseOk abortPduOk abortOk nameOk titleOk items
+pdus = tt
+
 pub both-sides : (map (λ (r : Row). gives (r .asked)) cases ≡ map (λ (r : Row). r .answered) cases) × ((s : List ℕ) → 64 < length s → nameOk s ≡ false)
-unfolding cases receiveOf receiveRefusal heard recordRefusal broken clauses strayState overfull strayDeaf mistimed badLength markedIdle timed dropping eng.receive frame lengthField be32 be16 put front onEvent doing eventOf eventOfKind after entering requestorAfter peerAt acceptsAt abortFor tenBy tenOf tens table cellOf actions doesOf nextOf showsOf artimOf kindOf acceptable maximumOf whole validAs requestOk dataOk releaseOk abortPduOk abortOk pdvStep pdvsIn pdvs pdvOk pdvsOk subsOk good20H one userGood good50H contextGood topGood topOk ids itemsOk maximumIn step walkIn walk filled bodies types only goodBodies holds nameOk titleOk trimEnd titlesEqual among distinct
+unfolding cases calls frames machine pdus trimEnd titlesEqual
 both-sides = (refl, name-long)

@@ -5,6 +5,7 @@ use mathlib.Core.List.{List, [], _∷_, _++_}
 use lib.ListN.{take, replicate}
 use lib.Dec.{eqb}
 use Rattle.laws.specs.Text.{bytes}
+use Rattle.numbers.specs.Lengths.{BUFFER, TEN}
 use Rattle.names.specs.Name.{nameOk}
 use Rattle.titles.specs.Title.{titlesEqual}
 use Rattle.judging.specs.Pdu.{kindOf}
@@ -49,7 +50,7 @@ seenAs c =
 abbrev pub gives : Question → Outcome
 gives (receive s q p) =
     seenAs
-    (receiveOf (record { state = s; gathered = 0; deaf = false; artim = timed s; requestor = q; «peer_max» = 0 }) (replicate 16390 0) p (replicate 10 0))
+    (receiveOf (record { state = s; gathered = 0; deaf = false; artim = timed s; requestor = q; «peer_max» = 0 }) (replicate BUFFER 0) p (replicate TEN 0))
 gives (equal a b) = says (titlesEqual a b)
 gives (pdu p) = says (not (eqb (kindOf p) 0))
 gives (name s) = says (nameOk s)

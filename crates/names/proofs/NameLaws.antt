@@ -108,11 +108,7 @@ unfolding nameOk
 name-read [] h = refl
 name-read (x ∷ s) h = simp (le-leb 1 (suc (length s)) (omega arith), le-leb _ _ h) (sym (reads-name (x ∷ s)))
 
--- what a good name has: one byte at least, 64 at most
-pub name-some : (s : List ℕ) → nameOk s ≡ true → 1 ≤ length s
-unfolding nameOk
-name-some s e = leb-true 1 (length s) (left-of (leb 1 (length s)) (leb (length s) 64) (left-of (leb 1 (length s) && leb (length s) 64) _ e))
-
+-- what a good name has: 64 bytes at most
 pub name-short : (s : List ℕ) → nameOk s ≡ true → length s ≤ 64
 unfolding nameOk
 name-short s e = leb-true (length s) 64 (right-of (leb 1 (length s)) (leb (length s) 64) (left-of (leb 1 (length s) && leb (length s) 64) _ e))

@@ -1,5 +1,5 @@
 -- A name (UID): "1 to 64 bytes of digits and dots; components non-empty, no leading zero unless the component is "0"."
-use mathlib.Core.Bool.{Bool, true, false, cond, not, _&&_, _||_}
+use mathlib.Core.Bool.{Bool, false, cond, not, _&&_, _||_}
 use mathlib.Core.List.{List, [], _∷_}
 use Prim.Native.Nat.{ℕ}
 use lib.Dec.{leb, eqb}

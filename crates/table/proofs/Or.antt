@@ -1,6 +1,6 @@
 -- A chain of alternatives, one step: what `search` follows where a definition is built by `||` and the code returns at the first that holds.
 -- Assumes nothing.
-use mathlib.Core.Path.{_≡_, _∙_}
+use mathlib.Core.Path.{_≡_}
 use mathlib.Core.Bool.{Bool, true, false, _||_}
 use Rattle.laws.proofs.Tests.{decide}
 

@@ -2,20 +2,21 @@
 -- Sta1 and Sta4 alone; an action leads to a state. One computation, and what it says of each cell.
 -- Assumes nothing.
 use Prim.Native.Nat.{ℕ, zero, suc, _+_, _-_, _*_, _≤_, _<_}
-use mathlib.Core.Path.{_≡_, refl, sym, _∙_}
-use mathlib.Core.Bool.{Bool, true, false, cond, not, _&&_, _||_}
+use mathlib.Core.Path.{_≡_, refl}
+use mathlib.Core.Bool.{Bool, true, false, cond, not, _&&_}
 use mathlib.Core.List.{List, [], _∷_, _++_}
 use native.Mathlib.Omega.{arith}
 use native.Mathlib.Decide.{decLt}
-use lib.Dec.{T, eqb, ltb, leb, eqb→eq, leb→le}
+use lib.Dec.{T, eqb, leb, eqb→eq, leb→le}
 use lib.ListN.{length, getD, drop, List·getD-eq-default}
-use borrow.Author.Tests.{eq-eqb, ne-eqb}
-use Rattle.laws.specs.Lists.{among}
+use borrow.Author.Needs.{needs}
+use borrow.Author.Tests.{ne-eqb}
 use Rattle.laws.proofs.Booleans.{T-left, T-right}
 use Rattle.laws.proofs.Below.{allBelow, below}
-use Rattle.table.specs.Actions.{actions, doesOf, nextOf}
+use Rattle.table.specs.Actions.{nextOf}
 use Rattle.table.specs.Table.{table, cellOf, isReceived}
 use Rattle.table.proofs.Grid.{grid, each}
+use Rattle.table.proofs.Unfolded.{table-unfolded}
 
 -- the cells, row behind row
 abbrev flat : List (List ℕ) → List ℕ
@@ -51,7 +52,7 @@ abbrev right : List ℕ → Bool
 right l = eqb (length l) 247 && (eqb (blanks l) 124 && grid (rightAt l))
 
 tested : T (right cells)
-unfolding cells table cellOf isReceived among actions doesOf nextOf
+unfolding cells table-unfolded
 tested = tt
 
 -- ---- what it says of the whole
@@ -162,6 +163,12 @@ module _ (e s : ℕ) (e₁ : 1 ≤ e) (e₂ : e < 20) (s₁ : 1 ≤ s) (s₂ : s
 
   pub dropped-blank : isReceived e ≡ true → hears s ≡ false → cellOf e s ≡ 0
   dropped-blank r v = let t : T (eqb (cellOf e s) 0) = rw v at (received-here r) in eqb→eq _ _ t
+
+-- the entry at a cell's place
+pub cell-at : (e s k : ℕ) → 1 ≤ e → e ≤ 19 → 1 ≤ s → s ≤ 13 → k ≡ (e - 1) * 13 + (s - 1) → getD cells k 0 ≡ cellOf e s
+cell-at e s k e₁ e₂ s₁ s₂ q = rw q (cell-right e s e₁ (omega arith) s₁ (omega arith))
+
+pub ruleset outside = (needs, no-event, past-rows, no-state, past-columns)
 
 -- every cell holds an action's number or 0
 pub cell-known : (e s : ℕ) → cellOf e s < 29

@@ -8,6 +8,7 @@ use Rattle.table.specs.ActionNames.{····}
 use Rattle.table.specs.ActionNames.{AE-1, AE-2, AE-3, AE-4, AE-5, AE-6, AE-7, AE-8, DT-1, DT-2}
 use Rattle.table.specs.ActionNames.{AR-1, AR-2, AR-3, AR-4, AR-5, AR-6, AR-7, AR-8, AR-9, AR-10}
 use Rattle.table.specs.ActionNames.{AA-1, AA-2, AA-3, AA-4, AA-5, AA-6, AA-7, AA-8}
+use Rattle.table.specs.EventNames.{AC-RECEIVED, RJ-RECEIVED, RQ-RECEIVED, DATA-RECEIVED, RELEASE-RQ-RECEIVED, RELEASE-RP-RECEIVED, ABORT-RECEIVED, INVALID-RECEIVED}
 
 -- a row; its place 0 is no state's
 abbrev row : ℕ → ℕ → ℕ → ℕ → ℕ → ℕ → ℕ → ℕ → ℕ → ℕ → ℕ → ℕ → ℕ → List ℕ
@@ -46,4 +47,6 @@ cellOf event state = getD (getD table event []) state 0
 
 -- the events that bytes bring: the rows of PDUs
 unfoldable pub isReceived : ℕ → Bool
-isReceived event = among event (3 ∷ 4 ∷ 6 ∷ 10 ∷ 12 ∷ 13 ∷ 16 ∷ 19 ∷ [])
+isReceived event =
+    among event
+    (AC-RECEIVED ∷ RJ-RECEIVED ∷ RQ-RECEIVED ∷ DATA-RECEIVED ∷ RELEASE-RQ-RECEIVED ∷ RELEASE-RP-RECEIVED ∷ ABORT-RECEIVED ∷ INVALID-RECEIVED ∷ [])

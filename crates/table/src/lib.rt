@@ -95,7 +95,11 @@ const NEXTS: [u8; 28] = *b"\
     \x07\x08\x01\x0d\x01\x07\x08\x0a\x0b\x0c\
     \x0d\x01\x01\x01\x01\x0d\x0d\x0d";
 
-// For the same actions: 1 where the ARTIM timer is started, 2 where it is stopped.
+const STARTS: u8 = 1;
+
+const STOPS: u8 = 2;
+
+// For the same actions: whether the ARTIM timer is started or stopped.
 const TIMERS: [u8; 28] = *b"\
     \x00\x00\x00\x00\x01\x01\x00\x01\
     \x00\x00\
@@ -135,16 +139,16 @@ pub fn cell(event: u8, state: u8) -> u8
     ensures { λ r. ⌜ r ≡ cellOf event state ⌝ }
 {
     if event < 1 {
-        return 0;
+        return NO_ACTION;
     }
     if 19 < event {
-        return 0;
+        return NO_ACTION;
     }
     if state < 1 {
-        return 0;
+        return NO_ACTION;
     }
     if 13 < state {
-        return 0;
+        return NO_ACTION;
     }
     let at = place(event, state);
     CELLS[at]
@@ -191,10 +195,10 @@ pub fn artim_after(action: u8, accepts: bool, before: bool) -> bool
         return !accepts;
     }
     let timer = at(TIMERS, action);
-    if timer == 1 {
+    if timer == STARTS {
         return true;
     }
-    if timer == 2 {
+    if timer == STOPS {
         return false;
     }
     before
@@ -227,26 +231,15 @@ pub fn sends(action: u8, accepts: bool) -> u8
 pub fn is_received(event: u8) -> bool
     ensures { λ r. ⌜ r ≡ isReceived event ⌝ }
 {
-    if event == AC_RECEIVED {
-        return true;
+    match event {
+        AC_RECEIVED => true,
+        RJ_RECEIVED => true,
+        RQ_RECEIVED => true,
+        DATA_RECEIVED => true,
+        RELEASE_RQ_RECEIVED => true,
+        RELEASE_RP_RECEIVED => true,
+        ABORT_RECEIVED => true,
+        INVALID_RECEIVED => true,
+        _ => false,
     }
-    if event == RJ_RECEIVED {
-        return true;
-    }
-    if event == RQ_RECEIVED {
-        return true;
-    }
-    if event == DATA_RECEIVED {
-        return true;
-    }
-    if event == RELEASE_RQ_RECEIVED {
-        return true;
-    }
-    if event == RELEASE_RP_RECEIVED {
-        return true;
-    }
-    if event == ABORT_RECEIVED {
-        return true;
-    }
-    event == INVALID_RECEIVED
 }

@@ -28,11 +28,11 @@ pub list-odd : (l : List ℕ) → (length l % 16 ≡ 0 → ⊥) → false ≡ li
 unfolding listOk
 list-odd l n = simp (ne-eqb _ _ n)
 
-pub list-long : (l : List ℕ) → 128 < length l → false ≡ listOk l
+pub list-long : (l : List ℕ) → 8 < length l / 16 → false ≡ listOk l
 unfolding listOk
 list-long l h = simp (lt-leb _ _ h, and-false)
 
-list-is : (l : List ℕ) → length l % 16 ≡ 0 → length l ≤ 128 → listOk l ≡ all titleOk (titles l)
+list-is : (l : List ℕ) → length l % 16 ≡ 0 → length l / 16 ≤ 8 → listOk l ≡ all titleOk (titles l)
 unfolding listOk
 list-is l e h = simp (eq-eqb _ _ e, le-leb _ _ h)
 
@@ -40,10 +40,10 @@ module _ (l : List ℕ) (n j : ℕ) (v : all titleOk (records 16 (n - j) (drop (
   pub list-next : (b : Bool) → j < n → b ≡ titleOk (take (j * 16 + 16 - j * 16) (drop (j * 16) l)) → not b ≡ false → all titleOk (records 16 (n - (j + 1)) (drop ((j + 1) * 16) l)) ≡ all titleOk (titles l)
   list-next b h e t = simp (records-step 16 n j l h, sym e ∙ not-false b t) at v
 
-  pub list-stop : (b : Bool) → j < n → b ≡ titleOk (take (j * 16 + 16 - j * 16) (drop (j * 16) l)) → not b ≡ true → length l % 16 ≡ 0 → length l ≤ 128 → false ≡ listOk l
+  pub list-stop : (b : Bool) → j < n → b ≡ titleOk (take (j * 16 + 16 - j * 16) (drop (j * 16) l)) → not b ≡ true → length l % 16 ≡ 0 → length l / 16 ≤ 8 → false ≡ listOk l
   list-stop b h e t o k = (simp (records-step 16 n j l h, sym e ∙ not-true b t) at v) ∙ sym (list-is l o k)
 
-  pub list-end : n ≤ j → length l % 16 ≡ 0 → length l ≤ 128 → true ≡ listOk l
+  pub list-end : n ≤ j → length l % 16 ≡ 0 → length l / 16 ≤ 8 → true ≡ listOk l
   list-end h o k = (simp (records-over 16 n j (drop (j * 16) l) h) at v) ∙ sym (list-is l o k)
 
 pub ruleset list-laws = (needs, all-holds, list-odd, list-long, list-next, list-stop, list-end)

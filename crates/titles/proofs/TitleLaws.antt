@@ -1,7 +1,7 @@
 -- Laws of one title: the loop at i has found the bytes before i good, and b says whether they are spaces alone.
 -- Assumes nothing.
 use Prim.Native.Nat.{ℕ, _<_, _≤_, _+_}
-use mathlib.Core.Path.{_≡_, refl, sym, _∙_, ap}
+use mathlib.Core.Path.{_≡_, sym, _∙_, ap}
 use mathlib.Core.Bool.{Bool, true, false, not, _&&_, and-false, and-true}
 use mathlib.Core.List.{List}
 use lib.Dec.{eqb}

@@ -1,7 +1,7 @@
 -- Laws of trimming.
 -- Assumes nothing.
 use Prim.Native.Nat.{ℕ, _≤_, _<_, _-_, _+_}
-use mathlib.Core.Path.{_≡_, refl, sym, _∙_, ap}
+use mathlib.Core.Path.{_≡_, sym, _∙_, ap}
 use mathlib.Core.List.{List, [], _∷_, _++_, reverse-append, reverse-cons, reverse-reverse}
 use mathlib.Core.Bool.{Bool}
 use lib.ListN.{length, take, drop, getD}

@@ -5,6 +5,7 @@ use Prim.Native.Nat.{ℕ}
 use lib.Dec.{leb, eqb}
 use lib.ListN.{length}
 use Rattle.laws.specs.Lists.{all, sameBytes}
+use Rattle.numbers.specs.Lengths.{TITLE}
 
 abbrev pub space : ℕ → Bool
 space b = eqb b 0x20
@@ -15,7 +16,7 @@ titleByte b = leb 0x20 b && leb b 0x7E && not (eqb b 0x5C)
 
 -- 16 such bytes, "not 16 spaces"
 unfoldable pub titleOk : List ℕ → Bool
-titleOk t = eqb (length t) 16 && all titleByte t && not (all space t)
+titleOk t = eqb (length t) TITLE && all titleByte t && not (all space t)
 
 abbrev pub trimStart : List ℕ → List ℕ
 trimStart [] = []

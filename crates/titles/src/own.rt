@@ -5,11 +5,12 @@ ghost use Rattle.titles.specs.Title.{titlesEqual};
 ghost use Rattle.titles.specs.Own.{titles, listOk, Checked, refusal, value};
 use crate::equal::titles_equal;
 use crate::title::title_ok;
+use numbers::TITLE;
 
 pub enum Known {
     Yes,
     No,
-    // Refusal 4.
+    // numbers::BAD_CONTENTS
     Refused,
 }
 
@@ -17,17 +18,17 @@ pub enum Known {
 fn list_ok(own: &[u8]) -> bool
     ensures { λ r. ⌜ r ≡ listOk (now (own .entry)) ⌝ }
 {
-    if own.len() % 16 != 0 {
+    if own.len() % TITLE != 0 {
         return false;
     }
-    if 128 < own.len() {
+    let n = own.len() / TITLE;
+    if 8 < n {
         return false;
     }
-    let n = own.len() / 16;
     let mut k = 0;
     while k < n {
-        let at = k * 16;
-        if !title_ok(&own[at..at + 16]) {
+        let at = k * TITLE;
+        if !title_ok(&own[at..at + TITLE]) {
             return false;
         }
         k += 1;
@@ -39,11 +40,11 @@ fn list_ok(own: &[u8]) -> bool
 fn any_equal(own: &[u8], t: &[u8]) -> bool
     ensures { λ r. ⌜ r ≡ any (titlesEqual (now (t .entry))) (titles (now (own .entry))) ⌝ }
 {
-    let n = own.len() / 16;
+    let n = own.len() / TITLE;
     let mut k = 0;
     while k < n {
-        let at = k * 16;
-        if titles_equal(t, &own[at..at + 16]) {
+        let at = k * TITLE;
+        if titles_equal(t, &own[at..at + TITLE]) {
             return true;
         }
         k += 1;
@@ -55,7 +56,7 @@ fn any_equal(own: &[u8], t: &[u8]) -> bool
 pub fn title_known(own: &[u8], sought: &[u8]) -> Known
     ensures { λ r. ⌜ Checked (now (own .entry)) (now (sought .entry)) (refusal r) (value r) ⌝ }
 {
-    if sought.len() != 16 {
+    if sought.len() != TITLE {
         return Known::Refused;
     }
     if !list_ok(own) {

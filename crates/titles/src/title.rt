@@ -6,7 +6,7 @@ ghost use Rattle.titles.specs.Title.{titleOk};
 pub fn title_ok(t: &[u8]) -> bool
     ensures { λ r. ⌜ r ≡ titleOk (now (t .entry)) ⌝ }
 {
-    if t.len() != 16 {
+    if t.len() != numbers::TITLE {
         return false;
     }
     let mut blank = true;
