@@ -38,7 +38,7 @@ moved state artim requestor b = record { state = state; deaf = b .deaf; artim = 
 abbrev pub cleared : Standing → Standing
 cleared s = record { state = s .state; deaf = false; artim = s .artim; requestor = false; peer = 0 }
 
--- ----
+-- ---- what state and marks say
 
 -- "In Sta1 and Sta4 all bytes are used and dropped"; the association is deaf: "later bytes are used and dropped until Sta1"
 unfoldable pub dropping : Standing → Bool

@@ -5,6 +5,7 @@ use mathlib.Core.Bool.{cond}
 use mathlib.Core.List.{List, _++_}
 use lib.ListN.{length, take, drop}
 use lib.Dec.{ltb, leb}
+use Rattle.numbers.specs.Lengths.{HEADER, LONGEST, BUFFER}
 use Rattle.octets.specs.Put.{put}
 use Rattle.framing.specs.Framing.{Frame, frame, Frame.short, Frame.long, Frame.whole}
 use Rattle.receiving.specs.declared.gather.Head.{Head}
@@ -39,23 +40,23 @@ headOf (whole n) = Whole
 -- bytes used of a piece of m bytes, behind c gathered
 abbrev pub usedOf : Frame → ℕ → ℕ → ℕ
 usedOf short c m = m
-usedOf long c m = 6 - c
+usedOf long c m = HEADER - c
 usedOf (whole n) c m = n - c
 
 -- the buffer has room for any PDU, and the c bytes gathered brought no event yet
 pub record RoomToGather (b : List ℕ) (c : ℕ) : Type 0 where
-  pub room : 16390 ≤ length b
+  pub room : BUFFER ≤ length b
   pub within : c ≤ length b
-  pub quiet : frame 16384 (take c b) ≡ short
+  pub quiet : frame LONGEST (take c b) ≡ short
 
 -- nothing is gathered yet, and the piece has the header
 pub record Opens (b p : List ℕ) : Type 0 where
-  pub room : 16390 ≤ length b
-  pub header : 6 ≤ length p
+  pub room : BUFFER ≤ length b
+  pub header : HEADER ≤ length p
 
 pub record Gathered (b : List ℕ) (c : ℕ) (p : List ℕ) (b′ : List ℕ) (r : Got) : Type 0 where
-  pub used : r .used ≡ usedOf (frame 16384 (take c b ++ p)) c (length p)
-  pub head : r .head ≡ headOf (frame 16384 (take c b ++ p))
+  pub used : r .used ≡ usedOf (frame LONGEST (take c b ++ p)) c (length p)
+  pub head : r .head ≡ headOf (frame LONGEST (take c b ++ p))
   pub some : r .used ≤ length p
   pub room : c + r .used ≤ length b
   pub buffer : b′ ≡ put b c (take (r .used) p)
