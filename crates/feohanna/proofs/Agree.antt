@@ -14,7 +14,7 @@ use Rattle.feohanna.proofs.calls.feo_raw_confirm as confirm
 use Rattle.feohanna.proofs.calls.feo_raw_accept as accept
 use Rattle.feohanna.proofs.calls.feo_raw_reject as reject
 use Rattle.feohanna.proofs.calls.feo_raw_send as send
-use Rattle.feohanna.proofs.numbers.feo_raw_fresh as fresh
+use Rattle.feohanna.proofs.hosted.feo_raw_fresh as fresh
 use Rattle.feohanna.proofs.readers.feo_raw_read_request as read-request
 use Rattle.feohanna.proofs.readers.feo_raw_read_accept as read-accept
 use Rattle.feohanna.proofs.readers.feo_raw_read_reject as read-reject

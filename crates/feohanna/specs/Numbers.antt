@@ -3,6 +3,7 @@ use mathlib.Core.Bool.{Bool, cond, not}
 use mathlib.Core.List.{List}
 use Prim.Native.Nat.{ℕ}
 use lib.Dec.{eqb}
+use Rattle.numbers.specs.Refusals.{NOT-REFUSED}
 use Rattle.association.specs.declared.Assoc.{Assoc}
 use Rattle.association.specs.declared.Told.{Told}
 use Rattle.association.specs.declared.Answer.{Answer}
@@ -44,7 +45,7 @@ numbersOf a = numbers (a .state) (a .gathered) (byteOf (a .deaf)) (byteOf (a .ar
 
 -- a refused call stores nothing, marks above 1 among it; an answered one stores marks as 0 or 1
 unfoldable pub storedOf : Numbers → Answer → Numbers
-storedOf n r = cond (eqb (r .told .refusal) 0) (numbersOf (r .assoc)) n
+storedOf n r = cond (eqb (r .told .refusal) NOT-REFUSED) (numbersOf (r .assoc)) n
 
 abbrev pub told : ℕ → ℕ → ℕ → ℕ → ℕ → Told
 told refusal action used sent shown = record { refusal = refusal; action = action; used = used; sent = sent; shown = shown }

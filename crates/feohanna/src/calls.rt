@@ -1,6 +1,6 @@
 // Receiving and the local events. Each calls by value on the association of the host's numbers, and hands the answer out.
-use crate::numbers::assoc_of;
-use crate::numbers::hand_out;
+use crate::hosted::assoc_of;
+use crate::hosted::hand_out;
 ghost use mathlib.Core.Path.{_≡_};
 ghost use Rattle.writing.specs.Fields.{rqOf, acOf, rejectOf, itemsOf};
 ghost use Rattle.association.specs.Events.{Local.plain, Local.confirm, Local.accept, Local.reject, Local.send};

@@ -1,6 +1,6 @@
 // The C surface: functions on numbers and byte slices, thin over the calls by value. include/feohanna.h wraps them for a host.
 mod calls;
-mod numbers;
+mod hosted;
 mod readers;
 mod title;
 
@@ -10,7 +10,7 @@ pub use calls::feo_raw_event;
 pub use calls::feo_raw_receive;
 pub use calls::feo_raw_reject;
 pub use calls::feo_raw_send;
-pub use numbers::feo_raw_fresh;
+pub use hosted::feo_raw_fresh;
 pub use readers::feo_raw_read_abort;
 pub use readers::feo_raw_read_accept;
 pub use readers::feo_raw_read_data;

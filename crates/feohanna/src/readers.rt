@@ -1,5 +1,6 @@
 // The fields of each kind of PDU. Where a read is refused the numbers handed out are 0.
 ghost use mathlib.Core.Path.{_≡_};
+ghost use Rattle.numbers.specs.Kinds.{ASSOCIATE-RQ, ASSOCIATE-AC};
 ghost use Rattle.reading.specs.Associate.{Read};
 ghost use Rattle.reading.specs.Values.{rejectIn, abortIn};
 ghost use Rattle.reading.specs.Data.{dataOf};
@@ -15,7 +16,7 @@ pub extern "C" fn feo_raw_read_request(
     maximum: &mut u32,
     records: &mut usize,
 ) -> u8
-    ensures { λ r. ⌜ Read 1 (now (pdu .entry)) (now (sheet .entry))
+    ensures { λ r. ⌜ Read ASSOCIATE-RQ (now (pdu .entry)) (now (sheet .entry))
         (associate r (now (version .exit)) (now («application_at» .exit)) (now («application_len» .exit)) (now (maximum .exit)) (now (records .exit))) (now (sheet .exit)) ⌝ }
 {
     let f = reading::read_request(pdu, sheet);
@@ -37,7 +38,7 @@ pub extern "C" fn feo_raw_read_accept(
     maximum: &mut u32,
     records: &mut usize,
 ) -> u8
-    ensures { λ r. ⌜ Read 2 (now (pdu .entry)) (now (sheet .entry))
+    ensures { λ r. ⌜ Read ASSOCIATE-AC (now (pdu .entry)) (now (sheet .entry))
         (associate r (now (version .exit)) (now («application_at» .exit)) (now («application_len» .exit)) (now (maximum .exit)) (now (records .exit))) (now (sheet .exit)) ⌝ }
 {
     let f = reading::read_accept(pdu, sheet);

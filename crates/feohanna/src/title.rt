@@ -10,15 +10,15 @@ pub extern "C" fn feo_raw_title_known(own: &[u8], sought: &[u8], known: &mut u8)
     match k {
         Known::Yes => {
             *known = 1;
-            0
+            numbers::NOT_REFUSED
         }
         Known::No => {
             *known = 0;
-            0
+            numbers::NOT_REFUSED
         }
         Known::Refused => {
             *known = 0;
-            4
+            numbers::BAD_CONTENTS
         }
     }
 }

@@ -1,2 +1,3 @@
 mod Parts
+pub mod Entered
 pub mod Agree

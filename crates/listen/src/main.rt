@@ -11,6 +11,9 @@ ghost use Rattle.association.specs.Events.{Local.plain};
 ghost use Rattle.listen.specs.Window.{unreadOf, offerOf, pastOf, Filled};
 ghost use Rattle.listen.specs.Listen.{lent, given, Listened};
 
+// The most bytes that one read brings.
+const PIECE: usize = 4096;
+
 // What of the piece is not used yet, from `at` to `end`; whether the input has ended; how many calls may still be made, so that the loop ends whatever is read.
 struct Window {
     at: usize,
@@ -19,31 +22,31 @@ struct Window {
     turns: u64,
 }
 
-// An action's name in Tables 9-6 to 9-9: its family and its number there.
+// An action's name in Tables 9-6 to 9-9: its family, and its number behind the last action of the family before.
 fn print_name(action: u8) {
-    if action <= 8 {
+    if action <= table::AE_8 {
         io::write_all(STDOUT_FILENO, b"AE-");
         io::print_decimal(STDOUT_FILENO, action as u64);
         return;
     }
-    if action <= 10 {
+    if action <= table::DT_2 {
         io::write_all(STDOUT_FILENO, b"DT-");
-        io::print_decimal(STDOUT_FILENO, (action - 8) as u64);
+        io::print_decimal(STDOUT_FILENO, (action - table::AE_8) as u64);
         return;
     }
-    if action <= 20 {
+    if action <= table::AR_10 {
         io::write_all(STDOUT_FILENO, b"AR-");
-        io::print_decimal(STDOUT_FILENO, (action - 10) as u64);
+        io::print_decimal(STDOUT_FILENO, (action - table::DT_2) as u64);
         return;
     }
     io::write_all(STDOUT_FILENO, b"AA-");
-    io::print_decimal(STDOUT_FILENO, (action - 20) as u64);
+    io::print_decimal(STDOUT_FILENO, (action - table::AR_10) as u64);
 }
 
 // The line of a call's action. A call without one, a refused one among them, prints nothing.
 fn print_line(r: Told, state: u8) {
     let action = r.action;
-    if action == 0 {
+    if action == table::NO_ACTION {
         return;
     }
     print_name(action);
@@ -170,10 +173,15 @@ fn give(a: Assoc, number: u8, gather: &[u8], out: &mut [u8]) -> Assoc
 }
 
 fn main() {
-    let mut gather = [0u8; 16390];
-    let mut out = [0u8; 16390];
-    let mut piece = [0u8; 4096];
-    let a = give(association::fresh(), 5, &gather, &mut out);
+    let mut gather = [0u8; numbers::BUFFER];
+    let mut out = [0u8; numbers::BUFFER];
+    let mut piece = [0u8; PIECE];
+    let a = give(
+        association::fresh(),
+        table::TRANSPORT_INDICATION,
+        &gather,
+        &mut out,
+    );
     let b = listen(a, &mut gather, &mut piece, &mut out);
-    give(b, 17, &gather, &mut out);
+    give(b, table::TRANSPORT_CLOSED, &gather, &mut out);
 }

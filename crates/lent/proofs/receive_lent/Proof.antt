@@ -13,32 +13,32 @@ use base.Logic.{SProp, ent, emp, id⊢, via, fst∗}
 use base.Fml.{GName, Fml, ftrue, fat, flft, fobs, fbor}
 use prog.Memory.{Memory}
 use prog.Routine.{Routine}
-use prog.Wp.{Heap, Calls, Loops, WpFn, Tables}
+use prog.Wp.{Heap, Calls, Loops, WpFn}
 use ghost.Atoms.{Atoms}
 use contract.Lifetimes.{Lfts, Shares}
 use contract.Monad.{Fun, fact}
-use contract.Running.{givenOf, tables, tablesOf}
+use contract.Running.{givenOf, tables}
 use types.Kit.{Given, Item, ‵, raw, some, later, _⊛_, ⋆, _$_, _∵_, !, qed, by, move, keep, drop, use1, use2, split, join, pick, rewrite, fsplit, fsplit3, fjoin, fjoin3, feqL, feqI, suffices, frame, await, done}
 use types.Run.{look, look-raw, init, store-raw, forget, stop, hop, fld, from, load, addr, of-opd, and-then, no-more, assigns, land, returns, enter, alloc1, alloc0, params1, pass1, pass0, free1, free0}
 use types.Part.{agg, whole, sub, look-in}
 use types.SemTy.{Body}
-use sound.WpLaws.{FmC, fmOf, WpFn-mono}
+use sound.WpLaws.{FmC}
 use denote.RattleType.{owns}
 use denote.Memory.{mem}
 use denote.Laws.{Is, shows}
 use denote.Builtin.{u8}
 use denote.Ref.{RefT, MutRef, ptr-vals, mut-tells}
-use denote.Slice.{sliceVal, MutSlice, ShrSlice, Room, finally, slice-vals, mut-slice-tells, shr-slice-tells, shr-slice-copy}
+use denote.Slice.{MutSlice, ShrSlice, Room, finally, slice-vals, mut-slice-tells, shr-slice-tells, shr-slice-copy}
 use denote.Steps.{only, opens, closes, owned, peeks, heard, nothing}
 use denote.Struct.Steps.{spelt}
 use denote.Struct.Laws as LL
 use denote.Triple.Entry.{onEntry}
-use denote.Triple.Spec.{Meets, tripleOf}
+use denote.Triple.Spec.{tripleOf}
 use denote.Triple.Statement.{Contract, Triple}
 use denote.Triple.Call.{calls-at}
 use denote.Triple.Clauses.{ensured, lasts}
-use denote.Triple.Table.{entered, cited}
-use denote.Triple.Walked.{says, Stays, stay-ref, gave-slice, stay-none-slice, walkOf, AllGo, goes-ref, goes-gave-slice, goes-none-slice, Walks, ends-at, walked, walk-meets}
+use denote.Triple.Table.{cited}
+use denote.Triple.Walked.{says, Stays, stay-ref, gave-slice, stay-none-slice, walkOf, AllGo, goes-ref, goes-gave-slice, goes-none-slice, Walks, ends-at, walked}
 use denote.Exit.{yes}
 use denote.Signature.{plain}
 use Rattle.association.specs.Calls.{call, receiveOf}
@@ -54,7 +54,8 @@ use Rattle.receiving.proofs.receive as value
 use Rattle.receiving.proofs.receive.Symbol as value-def
 use Rattle.receiving.proofs.receive.Symbol.{name as #receive}
 use Rattle.receiving.proofs.receive.Met as value-thm
-use Rattle.lent.proofs.Parts.{assoc-is, told-is}
+use Rattle.lent.proofs.Parts.{value-of, assoc-is, told-is}
+use Rattle.lent.proofs.Entered.{enters-walked}
 use Rattle.lent.proofs.receive_lent.Key.{name as #receive-lent}
 use Rattle.lent.proofs.receive_lent as lent
 use Rattle.lent.proofs.receive_lent.Statement as stated
@@ -74,29 +75,25 @@ module _ {M : Type 1} (𝓤 : URA M) (H : Heap 𝓤) (A : Atoms 𝓤) (W : Given
   abbrev a : Arg
   a = (record { ptr = (b, o); name = γ; now = h }, (xg, (xp, (xo, tt))))
 
-  -- a slice's machine value
-  abbrev s : RefT (List ℕ) → Val
-  s x = sliceVal (x .ptr) (length (x .now))
-
   abbrev vals : List Val × (List Val × (List Val × (List Val × Unit {0})))
-  vals = (vptr b o ∷ [], (s xg ∷ [], (s xp ∷ [], (s xo ∷ [], tt))))
+  vals = (vptr b o ∷ [], (value-of xg ∷ [], (value-of xp ∷ [], (value-of xo ∷ [], tt))))
 
   abbrev Post : Val → SProp 𝓤
   Post = walkOf 𝓤 H A lent.ended stayed (lent.clauses 𝓤 H A at-mem run) .post ((κs, qs, tt, a, vals), tt)
 
   -- what `receive`'s triple binds outside
   abbrev to-value : Value 𝓤 H A at-mem run .Ghost
-  to-value = ((κs .1, qs .1, tt, (h, (xg, (xp, (xo, tt)))), (T′.lowered h ∷ [], (s xg ∷ [], (s xp ∷ [], (s xo ∷ [], tt))))), tt)
+  to-value = ((κs .1, qs .1, tt, (h, (xg, (xp, (xo, tt)))), (T′.lowered h ∷ [], (value-of xg ∷ [], (value-of xp ∷ [], (value-of xo ∷ [], tt))))), tt)
 
   -- the tokens that go to it, and what it takes
   abbrev toks : Item 𝓤
   toks = ‵ (flft (κs .1 .0) (qs .1 .0)) ⊛ ‵ (flft (κs .1 .1 .0) (qs .1 .1 .0)) ⊛ ‵ (flft (κs .1 .1 .1 .0) (qs .1 .1 .1 .0)) ⊛ ‵ ftrue
 
   abbrev given-up : Fml
-  given-up = owns (T.the-row ∷ MutSlice (named 0) (κs .1 .0) u8 ∷ ShrSlice (named 1) (κs .1 .1 .0) u8 ∷ MutSlice (named 2) (κs .1 .1 .1 .0) u8 ∷ []) (h, (xg, (xp, (xo, tt)))) (T′.lowered h ∷ [], (s xg ∷ [], (s xp ∷ [], (s xo ∷ [], tt))))
+  given-up = owns (T.the-row ∷ MutSlice (named 0) (κs .1 .0) u8 ∷ ShrSlice (named 1) (κs .1 .1 .0) u8 ∷ MutSlice (named 2) (κs .1 .1 .1 .0) u8 ∷ []) (h, (xg, (xp, (xo, tt)))) (T′.lowered h ∷ [], (value-of xg ∷ [], (value-of xp ∷ [], (value-of xo ∷ [], tt))))
 
   abbrev P : Fml
-  P = ShrSlice (named 2) (κs .1 .1 .0) u8 .own xp (s xp ∷ [])
+  P = ShrSlice (named 2) (κs .1 .1 .0) u8 .own xp (value-of xp ∷ [])
 
   goes : ent 𝓤 (⋆ 𝓤 H A (toks ∷ ‵ given-up ∷ [])) (Value 𝓤 H A at-mem run .pre to-value)
   goes = qed W (toks ∷ ‵ given-up ∷ []) ∵ join ! $ frame ! $ done !
@@ -110,9 +107,9 @@ module _ {M : Type 1} (𝓤 : URA M) (H : Heap 𝓤) (A : Atoms 𝓤) (W : Given
       owned ! U.the-row (Is U.the-row) (LL.makes U.the-type U′.the-plain 𝓤 H A) (r .told) _ is $ move ! (1 ∷ 0 ∷ []) $ done !
 
   module _ (C : Calls 𝓤 H) (Λ : Loops 𝓤 H) (fm : FmC 𝓤 H (W .laws) C) (known : Triple 𝓤 (C #receive) (Value 𝓤 H A at-mem run)) where
-    walk : Room u8 (length (xg .now)) → Room u8 (length (xp .now)) → Room u8 (length (xo .now)) → ent 𝓤 (onEntry 𝓤 H A lent.signature κs qs a vals) (WpFn 𝓤 H C Λ code.function (vptr b o ∷ s xg ∷ s xp ∷ s xo ∷ []) Post)
+    walk : Room u8 (length (xg .now)) → Room u8 (length (xp .now)) → Room u8 (length (xo .now)) → ent 𝓤 (onEntry 𝓤 H A lent.signature κs qs a vals) (WpFn 𝓤 H C Λ code.function (vptr b o ∷ value-of xg ∷ value-of xp ∷ value-of xo ∷ []) Post)
     walk rg rp ro =
-        qed W ((‵ (flft (κs .0) (qs .0)) ⊛ toks) ∷ ‵ (owns (MutRef (named 0) (κs .0) T.the-row ∷ MutSlice (named 1) (κs .1 .0) u8 ∷ ShrSlice (named 2) (κs .1 .1 .0) u8 ∷ MutSlice (named 3) (κs .1 .1 .1 .0) u8 ∷ []) a vals) ∷ []) ∵ enter ! C Λ code.function (vptr b o ∷ s xg ∷ s xp ∷ s xo ∷ []) _ $
+        qed W ((‵ (flft (κs .0) (qs .0)) ⊛ toks) ∷ ‵ (owns (MutRef (named 0) (κs .0) T.the-row ∷ MutSlice (named 1) (κs .1 .0) u8 ∷ ShrSlice (named 2) (κs .1 .1 .0) u8 ∷ MutSlice (named 3) (κs .1 .1 .1 .0) u8 ∷ []) a vals) ∷ []) ∵ enter ! C Λ code.function (vptr b o ∷ value-of xg ∷ value-of xp ∷ value-of xo ∷ []) _ $
         alloc1 ! (λ l0. alloc1 ! (λ l1. alloc1 ! (λ l2. alloc1 ! (λ l3. alloc1 ! (λ l4. alloc1 ! (λ l5. alloc1 ! (λ l6. alloc1 ! (λ l7. alloc1 ! (λ l8. alloc1 ! (λ l9. alloc1 ! (λ l10. alloc0 ! $ params1 ! $
         pass1 ! (init ! 18 refl (tt, tt)) $ pass1 ! (init ! 16 refl (tt, (tt, (record { fits = rg .0 }, tt)))) $ pass1 ! (init ! 14 refl (tt, (tt, (record { fits = rp .0 }, tt)))) $ pass1 ! (init ! 12 refl (tt, (tt, (record { fits = ro .0 }, tt)))) $ pass0 ! $
         -- the record's borrow is opened
@@ -126,7 +123,7 @@ module _ {M : Type 1} (𝓤 : URA M) (H : Heap 𝓤) (A : Atoms 𝓤) (W : Given
         assigns ! (addr ! (from ! (fld ! refl (hop ! (look-in ! 19 (sub ! 0 refl (whole !))) (stop !))))) (from ! (stop !)) (init ! 9 refl (tt, tt)) $
         assigns ! (agg ! (and-then ! (load ! (from ! (stop !)) (look ! 9 refl)) (and-then ! (load ! (from ! (fld ! refl (stop !))) (look-in ! 19 (sub ! 1 refl (whole !)))) (no-more !)))) (from ! (stop !)) (init ! 7 refl (tt, (tt, (record { fits = ro .0 }, tt)))) $
         -- what the callee takes is put together; of `piece` a copy is kept
-        move ! (6 ∷ []) $ fsplit ! $ move ! (1 ∷ []) $ fsplit ! $ use1 W (‵ P ⊛ ‵ P) (shr-slice-copy 𝓤 H A W (named 2) (κs .1 .1 .0) u8 .twice xp (s xp ∷ [])) $ split ! $
+        move ! (6 ∷ []) $ fsplit ! $ move ! (1 ∷ []) $ fsplit ! $ use1 W (‵ P ⊛ ‵ P) (shr-slice-copy 𝓤 H A W (named 2) (κs .1 .1 .0) u8 .twice xp (value-of xp ∷ [])) $ split ! $
         move ! (0 ∷ 2 ∷ []) $ fjoin ! $ move ! (2 ∷ 0 ∷ []) $ fjoin ! $ move ! (3 ∷ 0 ∷ []) $ fjoin ! $ move ! (6 ∷ 0 ∷ []) $ use2 W (raw (Value 𝓤 H A at-mem run .pre to-value)) goes $
         -- [what the callee asks; piece's; the record's cell; the open borrow; obs; auth; _10; …]
         calls-at ! fm (Value 𝓤 H A at-mem run) known to-value (and-then ! (load ! (from ! (stop !)) (look ! 14 refl)) (and-then ! (load ! (from ! (stop !)) (look ! 10 refl)) (and-then ! (load ! (from ! (stop !)) (look ! 20 refl)) (and-then ! (load ! (from ! (stop !)) (look ! 6 refl)) (no-more !))))) (λ w.
@@ -156,16 +153,9 @@ module _ {M : Type 1} (𝓤 : URA M) (H : Heap 𝓤) (A : Atoms 𝓤) (W : Given
   all-go : AllGo 𝓤 H A W 4 (lent.signature .params) (lent.ended .kept) stayed
   all-go = (goes-ref 𝓤 H A W 4 0 tt (plain (λ _. T.the-row)), (goes-gave-slice 𝓤 H A W 4 1 tt (plain (λ _. u8)), (goes-none-slice 𝓤 H A W 4 (2 ∷ []) tt (plain (λ _. u8)) yes, (goes-gave-slice 𝓤 H A W 4 3 tt (plain (λ _. u8)), tt))))
 
-lent-meets : {M : Type 1} (𝓤 : URA M) (H : Heap 𝓤) (A : Atoms 𝓤) → Given 𝓤 H A → (mem : Memory → SProp 𝓤) (run : Routine → Fun 𝓤) (𝓣 : Tables 𝓤 H) → Triple 𝓤 (𝓣 .C #receive) (Value 𝓤 H A mem run)
-    → Meets 𝓤 H A lent.signature (WpFn 𝓤 H (𝓣 .C) (𝓣 .Λ) code.function) (lent.spec 𝓤 H A mem run)
-lent-meets 𝓤 H A W mem run 𝓣 known =
-    walk-meets 𝓤 H A lent.ended stayed W (all-go 𝓤 H A W mem run) (lent.clauses 𝓤 H A mem run) (WpFn 𝓤 H (𝓣 .C) (𝓣 .Λ) code.function) (WpFn-mono 𝓤 H (W .laws) 𝓣 code.function)
-    (lent-walks 𝓤 H A W mem run (𝓣 .C) (𝓣 .Λ) (fmOf 𝓤 H (W .laws) 𝓣) known)
-
 pub receive-lent-spec : {M : Type 1} → stated.statement M
-unfolding code.routine tablesOf
+unfolding code.routine
 receive-lent-spec 𝓤 H 𝓜 𝓖 𝓡 =
-    entered 𝓤 H (tripleOf 𝓤 H (𝓖 .A) lent.signature (lent.spec 𝓤 H (𝓖 .A) (𝓜 .mem) (𝓡 .run)))
-    (tables 𝓤 H 𝓜 𝓡 code.env .C) (tables 𝓤 H 𝓜 𝓡 code.env .Λ) #receive-lent code.function (code.unfolded 𝓤 H 𝓜 𝓡)
-    (lent-meets 𝓤 H (𝓖 .A) (givenOf 𝓤 H 𝓜 𝓖) (𝓜 .mem) (𝓡 .run) (tablesOf 𝓤 H 𝓜 (tables 𝓤 H 𝓜 𝓡 code.env))
+    enters-walked 𝓤 H 𝓜 𝓖 𝓡 code.env lent.ended stayed (all-go 𝓤 H (𝓖 .A) (givenOf 𝓤 H 𝓜 𝓖) (𝓜 .mem) (𝓡 .run)) (lent.clauses 𝓤 H (𝓖 .A) (𝓜 .mem) (𝓡 .run)) #receive-lent code.function (code.unfolded 𝓤 H 𝓜 𝓡)
+    (λ fm. lent-walks 𝓤 H (𝓖 .A) (givenOf 𝓤 H 𝓜 𝓖) (𝓜 .mem) (𝓡 .run) (tables 𝓤 H 𝓜 𝓡 code.env .C) (tables 𝓤 H 𝓜 𝓡 code.env .Λ) fm
     (cited 𝓤 H (Value 𝓤 H (𝓖 .A) (𝓜 .mem) (𝓡 .run)) 𝓜 𝓡 code.env #receive value-def.routine code.calls-receiving·receive (value-thm.met 𝓤 H 𝓜 𝓖 𝓡)))

@@ -13,17 +13,17 @@ use base.Logic.{SProp, ent, emp, id⊢, via, fst∗}
 use base.Fml.{GName, Fml, ftrue, fat, flft, flent}
 use prog.Memory.{Memory}
 use prog.Routine.{Routine}
-use prog.Wp.{Heap, Calls, Loops, WpFn, Tables}
+use prog.Wp.{Heap, Calls, Loops, WpFn}
 use ghost.Atoms.{Atoms}
 use contract.Lifetimes.{Lfts, Shares}
 use contract.Monad.{Fun, fact}
-use contract.Running.{givenOf, tables, tablesOf}
+use contract.Running.{givenOf, tables}
 use types.Kit.{Given, Item, ‵, raw, given, some, later, _⊛_, ⋆, _$_, _∵_, !, qed, by, move, keep, drop, learn, use1, use2, use3, split, join, pick, rewrite, fsplit, fjoin, feqL, suffices, frame, await, done}
 use types.Run.{look, init, forget, stop, hop, fld, from, load, addr, of-opd, and-then, no-more, assigns, land, returns, enter, alloc1, alloc0, params1, pass1, pass0, free1, free0}
 use types.Part.{agg, whole, sub, look-in}
 use types.SemTy.{Body}
 use types.Tokens.{lft-new, lft-end}
-use sound.WpLaws.{FmC, fmOf, WpFn-mono}
+use sound.WpLaws.{FmC}
 use denote.RattleType.{owns}
 use denote.Memory.{mem}
 use denote.Laws.{Is, shows}
@@ -35,12 +35,12 @@ use denote.Lend.{lends-ref, ref-back}
 use denote.Steps.{only, owned, peeks, heard, nothing}
 use denote.Struct.Laws as LL
 use denote.Triple.Entry.{onEntry}
-use denote.Triple.Spec.{Meets, tripleOf}
+use denote.Triple.Spec.{tripleOf}
 use denote.Triple.Statement.{Contract, Triple}
 use denote.Triple.Call.{calls-at}
 use denote.Triple.Clauses.{ensured, lasts}
-use denote.Triple.Table.{entered, cited}
-use denote.Triple.Walked.{says, Stays, stay-none, gave-slice, stay-none-slice, walkOf, AllGo, goes-none, goes-gave-slice, goes-none-slice, Walks, ends-at, walked, walk-meets}
+use denote.Triple.Table.{cited}
+use denote.Triple.Walked.{says, Stays, stay-none, gave-slice, stay-none-slice, walkOf, AllGo, goes-none, goes-gave-slice, goes-none-slice, Walks, ends-at, walked}
 use denote.Exit.{yes}
 use denote.Signature.{plain}
 use Rattle.association.specs.Events.{Local.plain as bare}
@@ -57,6 +57,7 @@ use Rattle.lent.proofs.event_lent.Symbol as lent-def
 use Rattle.lent.proofs.event_lent.Symbol.{name as #event-lent}
 use Rattle.lent.proofs.event_lent.Met as lent-thm
 use Rattle.listen.specs.Listen.{lent as lent-of, given as given-of}
+use Rattle.lent.proofs.Entered.{enters-walked}
 use Rattle.listen.proofs.Local.{into, out-of, Print, to-print, goes-print}
 use Rattle.listen.proofs.print_line as print-line
 use Rattle.listen.proofs.print_line.Symbol as print-def
@@ -168,17 +169,13 @@ module _ {M : Type 1} (𝓤 : URA M) (H : Heap 𝓤) (A : Atoms 𝓤) (W : Given
   all-go : AllGo 𝓤 H A W 2 (give.signature .params) (give.ended .kept) stayed
   all-go = (goes-none 𝓤 H A W 2 (λ _. T.the-row) yes (λ κs x f. refl), (goes-none 𝓤 H A W 2 (λ _. u8) yes (λ κs x f. refl), (goes-none-slice 𝓤 H A W 2 (0 ∷ []) tt (plain (λ _. u8)) yes, (goes-gave-slice 𝓤 H A W 2 1 tt (plain (λ _. u8)), tt))))
 
-give-meets : {M : Type 1} (𝓤 : URA M) (H : Heap 𝓤) (A : Atoms 𝓤) → Given 𝓤 H A → (mem : Memory → SProp 𝓤) (run : Routine → Fun 𝓤) (𝓣 : Tables 𝓤 H) → Triple 𝓤 (𝓣 .C #event-lent) (Lent 𝓤 H A mem run) → Triple 𝓤 (𝓣 .C #print-line) (Print 𝓤 H A mem run)
-    → Meets 𝓤 H A give.signature (WpFn 𝓤 H (𝓣 .C) (𝓣 .Λ) code.function) (give.spec 𝓤 H A mem run)
-give-meets 𝓤 H A W mem run 𝓣 known known-print =
-    walk-meets 𝓤 H A give.ended stayed W (all-go 𝓤 H A W mem run) (give.clauses 𝓤 H A mem run) (WpFn 𝓤 H (𝓣 .C) (𝓣 .Λ) code.function) (WpFn-mono 𝓤 H (W .laws) 𝓣 code.function)
-    (give-walks 𝓤 H A W mem run (𝓣 .C) (𝓣 .Λ) (fmOf 𝓤 H (W .laws) 𝓣) known known-print)
-
 pub give-spec : {M : Type 1} → stated.statement M
-unfolding code.routine tablesOf
+unfolding code.routine
 give-spec 𝓤 H 𝓜 𝓖 𝓡 =
-    entered 𝓤 H (tripleOf 𝓤 H (𝓖 .A) give.signature (give.spec 𝓤 H (𝓖 .A) (𝓜 .mem) (𝓡 .run)))
-    (tables 𝓤 H 𝓜 𝓡 code.env .C) (tables 𝓤 H 𝓜 𝓡 code.env .Λ) #give code.function (code.unfolded 𝓤 H 𝓜 𝓡)
-    (give-meets 𝓤 H (𝓖 .A) (givenOf 𝓤 H 𝓜 𝓖) (𝓜 .mem) (𝓡 .run) (tablesOf 𝓤 H 𝓜 (tables 𝓤 H 𝓜 𝓡 code.env))
-    (cited 𝓤 H (Lent 𝓤 H (𝓖 .A) (𝓜 .mem) (𝓡 .run)) 𝓜 𝓡 code.env #event-lent lent-def.routine code.calls-lent·event-lent (lent-thm.met 𝓤 H 𝓜 𝓖 𝓡))
-    (cited 𝓤 H (Print 𝓤 H (𝓖 .A) (𝓜 .mem) (𝓡 .run)) 𝓜 𝓡 code.env #print-line print-def.routine code.calls-listen·print-line (print-thm.met 𝓤 H 𝓜 𝓖 𝓡)))
+    let A = 𝓖 .A in
+    let W = givenOf 𝓤 H 𝓜 𝓖 in
+    let 𝓣 = tables 𝓤 H 𝓜 𝓡 code.env in
+    enters-walked 𝓤 H 𝓜 𝓖 𝓡 code.env give.ended stayed (all-go 𝓤 H A W (𝓜 .mem) (𝓡 .run)) (give.clauses 𝓤 H A (𝓜 .mem) (𝓡 .run)) #give code.function (code.unfolded 𝓤 H 𝓜 𝓡)
+    (λ fm. give-walks 𝓤 H A W (𝓜 .mem) (𝓡 .run) (𝓣 .C) (𝓣 .Λ) fm
+    (cited 𝓤 H (Lent 𝓤 H A (𝓜 .mem) (𝓡 .run)) 𝓜 𝓡 code.env #event-lent lent-def.routine code.calls-lent·event-lent (lent-thm.met 𝓤 H 𝓜 𝓖 𝓡))
+    (cited 𝓤 H (Print 𝓤 H A (𝓜 .mem) (𝓡 .run)) 𝓜 𝓡 code.env #print-line print-def.routine code.calls-listen·print-line (print-thm.met 𝓤 H 𝓜 𝓖 𝓡)))

@@ -30,7 +30,7 @@ use types.Part.{agg, whole, sub, look-in}
 use types.SemTy.{Body as Held}
 use types.Tokens.{lft-new, lft-end}
 use sound.Loop.{loop-rule}
-use sound.WpLaws.{FmC, fmOf, WpFn-mono}
+use sound.WpLaws.{FmC, fmOf}
 use denote.RattleType.{owns}
 use denote.Memory.{mem, pointee}
 use denote.Laws.{Is, shows as shown-by}
@@ -42,12 +42,12 @@ use denote.Lend.{lends-ref, ref-back}
 use denote.Steps.{only, owned, peeks, heard, nothing}
 use denote.Struct.Laws as LL
 use denote.Triple.Entry.{onEntry}
-use denote.Triple.Spec.{Meets, tripleOf}
+use denote.Triple.Spec.{tripleOf}
 use denote.Triple.Statement.{Contract, Triple}
 use denote.Triple.Call.{calls-at, calls-at-last}
 use denote.Triple.Clauses.{ensured, lasts}
-use denote.Triple.Table.{entered, cited}
-use denote.Triple.Walked.{says, Stays, stay-none, stay-slice, walkOf, AllGo, goes-none, goes-slice, Walks, ends-at, walked, walk-meets}
+use denote.Triple.Table.{cited}
+use denote.Triple.Walked.{says, Stays, stay-none, stay-slice, walkOf, AllGo, goes-none, goes-slice, Walks, ends-at, walked}
 use denote.Exit.{yes}
 use denote.Signature.{plain}
 use Rattle.association.specs.Calls.{call, receiveOf}
@@ -64,6 +64,7 @@ use Rattle.lent.proofs.receive_lent.Met as lent-thm
 use Rattle.listen.specs.declared.Window.{Window}
 use Rattle.listen.specs.Window.{unreadOf, offerOf, pastOf, Filled}
 use Rattle.listen.specs.Listen.{lent as lent-of}
+use Rattle.lent.proofs.Entered.{enters-walked}
 use Rattle.listen.proofs.Feeds.{Loop, starts as starts-loop, finishes, turned as makes, fewer}
 use Rattle.listen.proofs.Window as N
 use Rattle.listen.proofs.Window.Laws as N′
@@ -459,6 +460,10 @@ module _ {M : Type 1} (𝓤 : URA M) (H : Heap 𝓤) (A : Atoms 𝓤) (W : Given
     walk : ent 𝓤 (onEntry 𝓤 H A listen.signature κs qs a vals) (WpFn 𝓤 H C Λ code.function (T′.lowered h ∷ value xg ∷ value xp ∷ value xo ∷ []) Post)
     walk = enters code-mir.t-1 Post starts
 
+module _ {M : Type 1} (𝓤 : URA M) (H : Heap 𝓤) (A : Atoms 𝓤) (W : Given 𝓤 H A) where
+  all-go : AllGo 𝓤 H A W 3 (listen.signature .params) (listen.ended .kept) stayed
+  all-go = (goes-none 𝓤 H A W 3 (λ _. T.the-row) yes (λ κs x f. refl), (goes-slice 𝓤 H A W 3 0 tt (plain (λ _. u8)), (goes-slice 𝓤 H A W 3 1 tt (plain (λ _. u8)), (goes-slice 𝓤 H A W 3 2 tt (plain (λ _. u8)), tt))))
+
 module _ {M : Type 1} (𝓤 : URA M) (H : Heap 𝓤) (A : Atoms 𝓤) (W : Given 𝓤 H A) (mem : Memory → SProp 𝓤) (run : Routine → Fun 𝓤) (𝓣 : Tables 𝓤 H)
     (known-unread : Triple 𝓤 (𝓣 .C #unread) (Unread 𝓤 H A mem run)) (known-fill : Triple 𝓤 (𝓣 .C #fill) (Fill 𝓤 H A mem run)) (known-offered : Triple 𝓤 (𝓣 .C #offered) (Offered 𝓤 H A mem run)) (known-lent : Triple 𝓤 (𝓣 .C #receive-lent) (Lent 𝓤 H A mem run))
     (known-print : Triple 𝓤 (𝓣 .C #print-line) (Print 𝓤 H A mem run)) (known-past : Triple 𝓤 (𝓣 .C #past) (Past 𝓤 H A mem run)) where
@@ -467,21 +472,16 @@ module _ {M : Type 1} (𝓤 : URA M) (H : Heap 𝓤) (A : Atoms 𝓤) (W : Given
       (λ κs. (LL.tells T.the-type T′.the-laws, (mut-slice-tells (named 0) (κs .0) u8, (mut-slice-tells (named 1) (κs .1 .0) u8, (mut-slice-tells (named 2) (κs .1 .1 .0) u8, tt)))))
       (λ κs qs bounds a _ are. via 𝓤 _ (fst∗ 𝓤 _ (emp 𝓤)) (walk 𝓤 H A W mem run κs qs (a .0) (a .1 .0) (a .1 .1 .0) (a .1 .1 .1 .0) (are .0) 𝓣 known-unread known-fill known-offered known-lent known-print known-past (are .1 .0 .0 .1) (are .1 .1 .0 .0 .1) (are .1 .1 .1 .0 .0 .1)))
 
-  all-go : AllGo 𝓤 H A W 3 (listen.signature .params) (listen.ended .kept) stayed
-  all-go = (goes-none 𝓤 H A W 3 (λ _. T.the-row) yes (λ κs x f. refl), (goes-slice 𝓤 H A W 3 0 tt (plain (λ _. u8)), (goes-slice 𝓤 H A W 3 1 tt (plain (λ _. u8)), (goes-slice 𝓤 H A W 3 2 tt (plain (λ _. u8)), tt))))
-
-  listen-meets : Meets 𝓤 H A listen.signature (WpFn 𝓤 H (𝓣 .C) (𝓣 .Λ) code.function) (listen.spec 𝓤 H A mem run)
-  listen-meets = walk-meets 𝓤 H A listen.ended stayed W all-go (listen.clauses 𝓤 H A mem run) (WpFn 𝓤 H (𝓣 .C) (𝓣 .Λ) code.function) (WpFn-mono 𝓤 H (W .laws) 𝓣 code.function) listen-walks
-
 pub listen-spec : {M : Type 1} → stated.statement M
 unfolding code.routine tablesOf
 listen-spec 𝓤 H 𝓜 𝓖 𝓡 =
-    entered 𝓤 H (tripleOf 𝓤 H (𝓖 .A) listen.signature (listen.spec 𝓤 H (𝓖 .A) (𝓜 .mem) (𝓡 .run)))
-    (tables 𝓤 H 𝓜 𝓡 code.env .C) (tables 𝓤 H 𝓜 𝓡 code.env .Λ) #listen code.function (code.unfolded 𝓤 H 𝓜 𝓡)
-    (listen-meets 𝓤 H (𝓖 .A) (givenOf 𝓤 H 𝓜 𝓖) (𝓜 .mem) (𝓡 .run) (tablesOf 𝓤 H 𝓜 (tables 𝓤 H 𝓜 𝓡 code.env))
-    (cited 𝓤 H (Unread 𝓤 H (𝓖 .A) (𝓜 .mem) (𝓡 .run)) 𝓜 𝓡 code.env #unread unread-def.routine code.calls-listen·unread (unread-thm.met 𝓤 H 𝓜 𝓖 𝓡))
-    (cited 𝓤 H (Fill 𝓤 H (𝓖 .A) (𝓜 .mem) (𝓡 .run)) 𝓜 𝓡 code.env #fill fill-def.routine code.calls-listen·fill (fill-thm.met 𝓤 H 𝓜 𝓖 𝓡))
-    (cited 𝓤 H (Offered 𝓤 H (𝓖 .A) (𝓜 .mem) (𝓡 .run)) 𝓜 𝓡 code.env #offered offered-def.routine code.calls-listen·offered (offered-thm.met 𝓤 H 𝓜 𝓖 𝓡))
-    (cited 𝓤 H (Lent 𝓤 H (𝓖 .A) (𝓜 .mem) (𝓡 .run)) 𝓜 𝓡 code.env #receive-lent lent-def.routine code.calls-lent·receive-lent (lent-thm.met 𝓤 H 𝓜 𝓖 𝓡))
-    (cited 𝓤 H (Print 𝓤 H (𝓖 .A) (𝓜 .mem) (𝓡 .run)) 𝓜 𝓡 code.env #print-line print-def.routine code.calls-listen·print-line (print-thm.met 𝓤 H 𝓜 𝓖 𝓡))
-    (cited 𝓤 H (Past 𝓤 H (𝓖 .A) (𝓜 .mem) (𝓡 .run)) 𝓜 𝓡 code.env #past past-def.routine code.calls-listen·past (past-thm.met 𝓤 H 𝓜 𝓖 𝓡)))
+    let A = 𝓖 .A in
+    let W = givenOf 𝓤 H 𝓜 𝓖 in
+    enters-walked 𝓤 H 𝓜 𝓖 𝓡 code.env listen.ended stayed (all-go 𝓤 H A W) (listen.clauses 𝓤 H A (𝓜 .mem) (𝓡 .run)) #listen code.function (code.unfolded 𝓤 H 𝓜 𝓡)
+    (λ fm. listen-walks 𝓤 H A W (𝓜 .mem) (𝓡 .run) (tablesOf 𝓤 H 𝓜 (tables 𝓤 H 𝓜 𝓡 code.env))
+    (cited 𝓤 H (Unread 𝓤 H A (𝓜 .mem) (𝓡 .run)) 𝓜 𝓡 code.env #unread unread-def.routine code.calls-listen·unread (unread-thm.met 𝓤 H 𝓜 𝓖 𝓡))
+    (cited 𝓤 H (Fill 𝓤 H A (𝓜 .mem) (𝓡 .run)) 𝓜 𝓡 code.env #fill fill-def.routine code.calls-listen·fill (fill-thm.met 𝓤 H 𝓜 𝓖 𝓡))
+    (cited 𝓤 H (Offered 𝓤 H A (𝓜 .mem) (𝓡 .run)) 𝓜 𝓡 code.env #offered offered-def.routine code.calls-listen·offered (offered-thm.met 𝓤 H 𝓜 𝓖 𝓡))
+    (cited 𝓤 H (Lent 𝓤 H A (𝓜 .mem) (𝓡 .run)) 𝓜 𝓡 code.env #receive-lent lent-def.routine code.calls-lent·receive-lent (lent-thm.met 𝓤 H 𝓜 𝓖 𝓡))
+    (cited 𝓤 H (Print 𝓤 H A (𝓜 .mem) (𝓡 .run)) 𝓜 𝓡 code.env #print-line print-def.routine code.calls-listen·print-line (print-thm.met 𝓤 H 𝓜 𝓖 𝓡))
+    (cited 𝓤 H (Past 𝓤 H A (𝓜 .mem) (𝓡 .run)) 𝓜 𝓡 code.env #past past-def.routine code.calls-listen·past (past-thm.met 𝓤 H 𝓜 𝓖 𝓡)))

@@ -7,10 +7,4 @@ use Rattle.feohanna.proofs.calls.feo_raw_send.Tie as tie
 
 pub feo-raw-send-spec : {M : Type 1} → statement M
 feo-raw-send-spec =
-    tie.close
-    (tie.spec
-    (λ c κs. search needs)  -- assoc-of-requires
-    (λ c κs. search needs)  -- send-requires
-    (λ c κs. search needs)  -- hand-out-requires
-    (λ c. search needs)  -- same-length
-    (λ c. search handing))  -- returns
+    tie.close (tie.spec (λ c κs. search needs) (λ c κs. search needs) (λ c κs. search needs) (λ c. search needs) (λ c. search handing))  -- assoc-of-requires, send-requires, hand-out-requires, same-length, returns

@@ -2,8 +2,8 @@
 -- Assumes nothing.
 use borrow.Author.Needs.{needs}
 use Rattle.feohanna.proofs.NumbersLaws.{freshly}
-use Rattle.feohanna.proofs.numbers.feo_raw_fresh.Statement.{statement}
-use Rattle.feohanna.proofs.numbers.feo_raw_fresh.Tie as tie
+use Rattle.feohanna.proofs.hosted.feo_raw_fresh.Statement.{statement}
+use Rattle.feohanna.proofs.hosted.feo_raw_fresh.Tie as tie
 
 pub feo-raw-fresh-spec : {M : Type 1} → statement M
 feo-raw-fresh-spec =

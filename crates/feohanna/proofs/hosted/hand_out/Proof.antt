@@ -2,8 +2,8 @@
 -- Assumes nothing.
 use borrow.Author.Needs.{needs}
 use Rattle.feohanna.proofs.NumbersLaws.{storing}
-use Rattle.feohanna.proofs.numbers.hand_out.Statement.{statement}
-use Rattle.feohanna.proofs.numbers.hand_out.Tie as tie
+use Rattle.feohanna.proofs.hosted.hand_out.Statement.{statement}
+use Rattle.feohanna.proofs.hosted.hand_out.Tie as tie
 
 pub hand-out-spec : {M : Type 1} → statement M
 hand-out-spec =

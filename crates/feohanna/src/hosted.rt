@@ -82,7 +82,7 @@ pub(crate) fn hand_out(
     *used = r.told.used;
     *sent = r.told.sent;
     *shown = r.told.shown;
-    if refusal != 0 {
+    if refusal != numbers::NOT_REFUSED {
         return refusal;
     }
     store(r.assoc, state, gathered, deaf, artim, requestor, peer_max);
