@@ -132,9 +132,6 @@ module _ (x : List ℕ) where
   pub kind-valid : (k : ℕ) → kindOf x ≡ k → (k ≡ 0 → ⊥) → validAs k x ≡ true
   kind-valid k e n = ap (λ (t : ℕ). validAs t x) (sym (kind-type k e n)) ∙ right-of (whole x) _ (both k e n .0)
 
-  pub kind-six : (k : ℕ) → kindOf x ≡ k → (k ≡ 0 → ⊥) → 6 ≤ length x
-  kind-six k e n = whole-six x (kind-whole k e n)
-
   -- and the other way: a whole PDU that is valid as its type
   pub kind-of-valid : (k : ℕ) → whole x ≡ true → getD x 0 0 ≡ k → validAs k x ≡ true → kindOf x ≡ k
   unfolding kindOf
@@ -151,10 +148,6 @@ module _ (x : List ℕ) where
   pub kind-reject : kindOf x ≡ 3 → rejectPduOk x ≡ true
   unfolding validAs
   kind-reject e = kind-valid 3 e (λ z. omega arith)
-
-  pub kind-data : kindOf x ≡ 4 → dataOk x ≡ true
-  unfolding validAs
-  kind-data e = kind-valid 4 e (λ z. omega arith)
 
   pub kind-abort : kindOf x ≡ 7 → abortPduOk x ≡ true
   unfolding validAs

@@ -19,9 +19,9 @@ use Rattle.octets.proofs.PutLaws.{put-none, put-out, put-behind, put-front, pla
 use Rattle.reasons.specs.Values.{abortOk}
 use Rattle.writing.specs.Fields.{abortOf, abortGood}
 use Rattle.writing.specs.Ten.{NO-TEN, TEN-RELEASE-RP, tens, tenOf}
-use Rattle.writing.specs.Form.{formRefusal, Wrote, goodForm}
+use Rattle.writing.specs.Form.{Wrote, goodForm}
 use Rattle.writing.specs.declared.Sent.{Sent}
-use Rattle.writing.proofs.FormLaws.{refusal-0, refusal-2, wrote-short, wrote-fine}
+use Rattle.writing.proofs.FormLaws.{wrote-short, wrote-fine}
 
 -- ---- `ten_of`
 pub ten-is : (n w : ℕ) → w ≡ n → tenOf n ≡ tenOf w
@@ -62,14 +62,6 @@ module _ (w : ℕ) (o o′ : List ℕ) (n : ℕ) (P : Placed o 0 (tenOf w) n o�
 
   pub ten-count : n ≡ length (tenOf w)
   ten-count = put-behind o 0 (tenOf w) P (omega arith) ∙ zero-add (length (tenOf w))
-
--- ---- a ten-byte PDU with no contents of the host's, or none, gets 2 or nothing
-module _ (w room : ℕ) where
-  pub own-short : room < length (tenOf w) → formRefusal (goodForm (tenOf w)) room ≡ SHORT-OUTPUT
-  own-short h = refusal-2 (goodForm (tenOf w)) room refl (omega (arith, ten-length w)) h
-
-  pub own-fine : length (tenOf w) ≤ room → formRefusal (goodForm (tenOf w)) room ≡ NOT-REFUSED
-  own-fine h = refusal-0 (goodForm (tenOf w)) room refl (omega (arith, ten-length w)) h
 
 -- ---- `write_ten`: a number that has bytes is one of the seven
 pub some-ten : (w n : ℕ) → n ≡ length (tenOf w) → (n ≡ 0 → ⊥) → 1 ≤ w

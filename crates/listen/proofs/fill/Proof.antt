@@ -7,8 +7,5 @@ pub fill-spec : {M : Type 1} → statement M
 fill-spec =
     tie.close
     (tie.spec
-    (λ c. search filling)  -- returns
-    (λ c κs. search filling)  -- read-requires
-    (λ c κs. search filling)  -- count-requires
-    (λ c. search filling)  -- same-length
-    (λ c. search filling))  -- returns-2
+    (λ c. search filling) (λ c κs. search filling) (λ c κs. search filling)  -- returns, read-requires, count-requires
+    (λ c. search filling) (λ c. search filling))  -- same-length, returns-2

@@ -7,11 +7,6 @@ pub offered-spec : {M : Type 1} → statement M
 offered-spec =
     tie.close
     (tie.spec
-    (λ c. search offering)  -- slice-aggregate-result
-    (λ c. search offering)  -- returns
-    (λ c. search offering)  -- slice-aggregate-result-2
-    (λ c. search offering)  -- returns-2
-    (λ c. search offering)  -- sub-result
-    (λ c. search offering)  -- part-result-start
-    (λ c. search offering)  -- part-result-end
-    (λ c. search offering))  -- returns-3
+    (λ c. search offering) (λ c. search offering) (λ c. search offering)  -- slice-aggregate-result, returns, slice-aggregate-result-2
+    (λ c. search offering) (λ c. search offering) (λ c. search offering)  -- returns-2, sub-result, part-result-start
+    (λ c. search offering) (λ c. search offering))  -- part-result-end, returns-3

@@ -7,6 +7,4 @@ pub past-spec : {M : Type 1} → statement M
 past-spec =
     tie.close
     (tie.spec
-    (λ c κs. search passing)  -- behind-requires
-    (λ c κs. search passing)  -- turns-left-requires
-    (λ c. search passing))  -- returns
+    (λ c κs. search passing) (λ c κs. search passing) (λ c. search passing))  -- behind-requires, turns-left-requires, returns

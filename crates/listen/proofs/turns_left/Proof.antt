@@ -7,7 +7,4 @@ pub turns-left-spec : {M : Type 1} → statement M
 turns-left-spec =
     tie.close
     (tie.spec
-    (λ c. search passing)  -- returns
-    (λ c. search passing)  -- returns-2
-    (λ c. search passing)  -- sub-result
-    (λ c. search passing))  -- returns-3
+    (λ c. search passing) (λ c. search passing) (λ c. search passing) (λ c. search passing))  -- returns, returns-2, sub-result, returns-3

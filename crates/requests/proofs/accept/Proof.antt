@@ -8,11 +8,6 @@ pub accept-spec : {M : Type 1} → statement M
 accept-spec =
     tie.close
     (tie.spec
-    (λ c κs. search event-laws)  -- local-cell-requires
-    (λ c κs. search event-laws)  -- gate-requires
-    (λ c κs. search event-laws)  -- refused-requires
-    (λ c. search event-laws)  -- returns
-    (λ c κs. search event-laws)  -- write-accept-requires
-    (λ c κs. search event-laws)  -- finish-requires
-    (λ c. search event-laws)  -- same-length
-    (λ c. search event-laws))  -- returns-2
+    (λ c κs. search event-laws) (λ c κs. search event-laws) (λ c κs. search event-laws)  -- local-cell-requires, gate-requires, refused-requires
+    (λ c. search event-laws) (λ c κs. search event-laws) (λ c κs. search event-laws)  -- returns, write-accept-requires, finish-requires
+    (λ c. search event-laws) (λ c. search event-laws))  -- same-length, returns-2

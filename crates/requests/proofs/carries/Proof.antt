@@ -11,8 +11,5 @@ unfolding carries among
 carries-spec =
     tie.close
     (tie.spec
-    (λ c. search carries-laws)  -- returns
-    (λ c. search carries-laws)  -- returns-2
-    (λ c. search carries-laws)  -- returns-3
-    (λ c. search carries-laws)  -- returns-4
-    (λ c. search carries-laws))  -- returns-5
+    (λ c. search carries-laws) (λ c. search carries-laws) (λ c. search carries-laws)  -- returns, returns-2, returns-3
+    (λ c. search carries-laws) (λ c. search carries-laws))  -- returns-4, returns-5

@@ -8,7 +8,5 @@ pub finish-spec : {M : Type 1} → statement M
 finish-spec =
     tie.close
     (tie.spec
-    (λ c κs. search finish-laws)  -- refused-requires
-    (λ c. search finish-laws)  -- returns
-    (λ c κs. search finish-laws)  -- after-requires
+    (λ c κs. search finish-laws) (λ c. search finish-laws) (λ c κs. search finish-laws)  -- refused-requires, returns, after-requires
     (λ c. search finish-laws))  -- returns-2

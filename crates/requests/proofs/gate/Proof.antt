@@ -8,7 +8,5 @@ pub gate-spec : {M : Type 1} → statement M
 gate-spec =
     tie.close
     (tie.spec
-    (λ c κs. search gate-laws)  -- record-refusal-requires
-    (λ c. search gate-laws)  -- returns
-    (λ c. search gate-laws)  -- returns-2
+    (λ c κs. search gate-laws) (λ c. search gate-laws) (λ c. search gate-laws)  -- record-refusal-requires, returns, returns-2
     (λ c. search gate-laws))  -- returns-3

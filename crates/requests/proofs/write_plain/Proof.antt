@@ -8,11 +8,6 @@ pub write-plain-spec : {M : Type 1} → statement M
 write-plain-spec =
     tie.close
     (tie.spec
-    (λ c κs. search plain-laws)  -- carries-requires
-    (λ c. search plain-laws)  -- returns
-    (λ c κs. search plain-laws)  -- ten-by-requires
-    (λ c κs. search plain-laws)  -- ten-len-requires
-    (λ c. search plain-laws)  -- returns-2
-    (λ c κs. search plain-laws)  -- write-ten-requires
-    (λ c. search plain-laws)  -- same-length
-    (λ c. search plain-laws))  -- returns-3
+    (λ c κs. search plain-laws) (λ c. search plain-laws) (λ c κs. search plain-laws)  -- carries-requires, returns, ten-by-requires
+    (λ c κs. search plain-laws) (λ c. search plain-laws) (λ c κs. search plain-laws)  -- ten-len-requires, returns-2, write-ten-requires
+    (λ c. search plain-laws) (λ c. search plain-laws))  -- same-length, returns-3

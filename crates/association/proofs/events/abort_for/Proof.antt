@@ -10,7 +10,5 @@ unfolding abortFor
 abort-for-spec =
     tie.close
     (tie.spec
-    (λ c. search tests depth 7)  -- returns
-    (λ c. search tests depth 7)  -- returns-2
-    (λ c. search tests depth 7)  -- returns-3
+    (λ c. search tests depth 7) (λ c. search tests depth 7) (λ c. search tests depth 7)  -- returns, returns-2, returns-3
     (λ c. search tests depth 7))  -- returns-4

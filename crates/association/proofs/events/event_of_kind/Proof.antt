@@ -10,11 +10,6 @@ unfolding eventOfKind
 event-of-kind-spec =
     tie.close
     (tie.spec
-    (λ c. search kind-laws depth 14)  -- returns
-    (λ c. search kind-laws depth 14)  -- returns-2
-    (λ c. search kind-laws depth 14)  -- returns-3
-    (λ c. search kind-laws depth 14)  -- returns-4
-    (λ c. search kind-laws depth 14)  -- returns-5
-    (λ c. search kind-laws depth 14)  -- returns-6
-    (λ c. search kind-laws depth 14)  -- returns-7
-    (λ c. search kind-laws depth 14))  -- returns-8
+    (λ c. search kind-laws depth 14) (λ c. search kind-laws depth 14) (λ c. search kind-laws depth 14)  -- returns, returns-2, returns-3
+    (λ c. search kind-laws depth 14) (λ c. search kind-laws depth 14) (λ c. search kind-laws depth 14)  -- returns-4, returns-5, returns-6
+    (λ c. search kind-laws depth 14) (λ c. search kind-laws depth 14))  -- returns-7, returns-8

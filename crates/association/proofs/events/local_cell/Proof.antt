@@ -10,7 +10,4 @@ unfolding localCell
 local-cell-spec =
     tie.close
     (tie.spec
-    (λ c κs. search tests)  -- is-received-requires
-    (λ c. search tests)  -- returns
-    (λ c κs. search tests)  -- cell-requires
-    (λ c. search tests))  -- returns-2
+    (λ c κs. search tests) (λ c. search tests) (λ c κs. search tests) (λ c. search tests))  -- is-received-requires, returns, cell-requires, returns-2

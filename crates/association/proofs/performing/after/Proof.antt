@@ -8,8 +8,5 @@ pub after-spec : {M : Type 1} → statement M
 after-spec =
     tie.close
     (tie.spec
-    (λ c κs. search deed-laws)  -- next-state-requires
-    (λ c κs. search deed-laws)  -- artim-after-requires
-    (λ c κs. search deed-laws)  -- requestor-after-requires
-    (λ c κs. search deed-laws)  -- entering-requires
-    (λ c. search deed-laws))  -- returns
+    (λ c κs. search deed-laws) (λ c κs. search deed-laws)  -- next-state-requires, artim-after-requires
+    (λ c κs. search deed-laws) (λ c κs. search deed-laws) (λ c. search deed-laws))  -- requestor-after-requires, entering-requires, returns

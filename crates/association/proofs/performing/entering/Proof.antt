@@ -8,5 +8,4 @@ pub entering-spec : {M : Type 1} → statement M
 entering-spec =
     tie.close
     (tie.spec
-    (λ c. search deed-laws)  -- returns
-    (λ c. search deed-laws))  -- returns-2
+    (λ c. search deed-laws) (λ c. search deed-laws))  -- returns, returns-2

@@ -9,10 +9,6 @@ unfolding tenNumbered
 ten-by-spec =
     tie.close
     (tie.spec
-    (λ c κs. search ten-by-laws)  -- sends-requires
-    (λ c. search ten-by-laws)  -- returns
-    (λ c. search ten-by-laws)  -- returns-2
-    (λ c. search ten-by-laws)  -- returns-3
-    (λ c. search ten-by-laws)  -- returns-4
-    (λ c. search ten-by-laws)  -- returns-5
+    (λ c κs. search ten-by-laws) (λ c. search ten-by-laws) (λ c. search ten-by-laws)  -- sends-requires, returns, returns-2
+    (λ c. search ten-by-laws) (λ c. search ten-by-laws) (λ c. search ten-by-laws)  -- returns-3, returns-4, returns-5
     (λ c. search ten-by-laws depth 12))  -- returns-6

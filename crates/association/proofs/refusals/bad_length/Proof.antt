@@ -8,8 +8,5 @@ pub bad-length-spec : {M : Type 1} → statement M
 bad-length-spec =
     tie.close
     (tie.spec
-    (λ c. search length-laws)  -- returns
-    (λ c κs. search length-laws)  -- length-field-requires
-    (λ c. search length-laws)  -- returns-2
-    (λ c. search length-laws)  -- add-result
-    (λ c. search length-laws))  -- returns-3
+    (λ c. search length-laws) (λ c κs. search length-laws) (λ c. search length-laws)  -- returns, length-field-requires, returns-2
+    (λ c. search length-laws) (λ c. search length-laws))  -- add-result, returns-3

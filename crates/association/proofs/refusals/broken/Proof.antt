@@ -10,13 +10,7 @@ unfolding broken clauses
 broken-spec =
     tie.close
     (tie.spec
-    (λ c κs. search tests depth 9)  -- stray-state-requires
-    (λ c. search tests depth 9)  -- returns
-    (λ c κs. search tests depth 9)  -- overfull-requires
-    (λ c. search tests depth 9)  -- returns-2
-    (λ c κs. search tests depth 9)  -- stray-deaf-requires
-    (λ c. search tests depth 9)  -- returns-3
-    (λ c κs. search tests depth 9)  -- mistimed-requires
-    (λ c. search tests depth 9)  -- returns-4
-    (λ c κs. search tests depth 9)  -- marked-idle-requires
+    (λ c κs. search tests depth 9) (λ c. search tests depth 9) (λ c κs. search tests depth 9)  -- stray-state-requires, returns, overfull-requires
+    (λ c. search tests depth 9) (λ c κs. search tests depth 9) (λ c. search tests depth 9)  -- returns-2, stray-deaf-requires, returns-3
+    (λ c κs. search tests depth 9) (λ c. search tests depth 9) (λ c κs. search tests depth 9)  -- mistimed-requires, returns-4, marked-idle-requires
     (λ c. search tests depth 9))  -- returns-5

@@ -10,6 +10,4 @@ unfolding dropping
 dropping-spec =
     tie.close
     (tie.spec
-    (λ c. search tests)  -- returns
-    (λ c. search tests)  -- returns-2
-    (λ c. search tests))  -- returns-3
+    (λ c. search tests) (λ c. search tests) (λ c. search tests))  -- returns, returns-2, returns-3

@@ -8,6 +8,4 @@ pub length-field-spec : {M : Type 1} → statement M
 length-field-spec =
     tie.close
     (tie.spec
-    (λ c κs. search length-laws)  -- be32-at-requires
-    (λ c. search length-laws)  -- cast-result
-    (λ c. search length-laws))  -- returns
+    (λ c κs. search length-laws) (λ c. search length-laws) (λ c. search length-laws))  -- be32-at-requires, cast-result, returns

@@ -8,6 +8,4 @@ pub mistimed-spec : {M : Type 1} → statement M
 mistimed-spec =
     tie.close
     (tie.spec
-    (λ c κs. search timed-laws)  -- timed-requires
-    (λ c. search timed-laws)  -- returns
-    (λ c. search timed-laws))  -- returns-2
+    (λ c κs. search timed-laws) (λ c. search timed-laws) (λ c. search timed-laws))  -- timed-requires, returns, returns-2

@@ -10,7 +10,4 @@ unfolding overfull
 overfull-spec =
     tie.close
     (tie.spec
-    (λ c. search tests)  -- returns
-    (λ c κs. search tests)  -- dropping-requires
-    (λ c. search tests)  -- returns-2
-    (λ c. search tests))  -- returns-3
+    (λ c. search tests) (λ c κs. search tests) (λ c. search tests) (λ c. search tests))  -- returns, dropping-requires, returns-2, returns-3

@@ -10,9 +10,5 @@ unfolding recordRefusal
 record-refusal-spec =
     tie.close
     (tie.spec
-    (λ c κs. search tests)  -- broken-requires
-    (λ c. search tests)  -- returns
-    (λ c. search tests)  -- returns-2
-    (λ c κs. search tests)  -- bad-length-requires
-    (λ c. search tests)  -- returns-3
-    (λ c. search tests))  -- returns-4
+    (λ c κs. search tests) (λ c. search tests) (λ c. search tests) (λ c κs. search tests)  -- broken-requires, returns, returns-2, bad-length-requires
+    (λ c. search tests) (λ c. search tests))  -- returns-3, returns-4

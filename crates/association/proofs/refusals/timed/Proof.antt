@@ -10,5 +10,4 @@ unfolding timed
 timed-spec =
     tie.close
     (tie.spec
-    (λ c. search tests)  -- returns
-    (λ c. search tests))  -- returns-2
+    (λ c. search tests) (λ c. search tests))  -- returns, returns-2

@@ -9,6 +9,5 @@ pub feo-raw-fresh-spec : {M : Type 1} → statement M
 feo-raw-fresh-spec =
     tie.close
     (tie.spec
-    (λ c κs. search needs)  -- fresh-requires
-    (λ c κs. search needs)  -- store-requires
+    (λ c κs. search needs) (λ c κs. search needs)  -- fresh-requires, store-requires
     (λ c. search freshly))  -- returns

@@ -9,10 +9,5 @@ pub feo-raw-title-known-spec : {M : Type 1} → statement M
 feo-raw-title-known-spec =
     tie.close
     (tie.spec
-    (λ c κs. search needs)  -- title-known-requires
-    (λ c. search needs)  -- enum-told
-    (λ c. search needs)  -- enum-told-2
-    (λ c. search needs)  -- enum-told-3
-    (λ c. search checking)  -- returns
-    (λ c. search checking)  -- returns-2
-    (λ c. search checking))  -- returns-3
+    (λ c κs. search needs) (λ c. search needs) (λ c. search needs) (λ c. search needs)  -- title-known-requires, enum-told, enum-told-2, enum-told-3
+    (λ c. search checking) (λ c. search checking) (λ c. search checking))  -- returns, returns-2, returns-3

@@ -8,11 +8,6 @@ pub fill-spec : {M : Type 1} → statement M
 fill-spec =
     tie.close
     (tie.spec
-    (λ c κs. search fill-laws)  -- want-requires
-    (λ c. search fill-laws)  -- add-put
-    (λ c. search fill-laws)  -- sub-put
-    (λ c. search fill-laws)  -- part-put-start
-    (λ c. search fill-laws)  -- part-put-end
-    (λ c κs. search fill-laws)  -- put-requires
-    (λ c. search fill-laws)  -- same-length
-    (λ c. search fill-laws))  -- returns
+    (λ c κs. search fill-laws) (λ c. search fill-laws) (λ c. search fill-laws)  -- want-requires, add-put, sub-put
+    (λ c. search fill-laws) (λ c. search fill-laws) (λ c κs. search fill-laws)  -- part-put-start, part-put-end, put-requires
+    (λ c. search fill-laws) (λ c. search fill-laws))  -- same-length, returns

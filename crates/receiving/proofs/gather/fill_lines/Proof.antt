@@ -8,12 +8,6 @@ pub fill-lines-spec : {M : Type 1} → statement M
 fill-lines-spec =
     tie.close
     (tie.spec
-    (λ c κs. search lines-laws)  -- fill-requires
-    (λ c. search lines-laws)  -- same-length
-    (λ c. search lines-laws)  -- returns
-    (λ c. search lines-laws)  -- add-line
-    (λ c κs. search lines-laws)  -- line-requires
-    (λ c κs. search lines-laws)  -- fill-requires-2
-    (λ c κs. search lines-laws)  -- fill-requires-3
-    (λ c. search lines-laws)  -- same-length-2
-    (λ c. search lines-laws))  -- returns-2
+    (λ c κs. search lines-laws) (λ c. search lines-laws) (λ c. search lines-laws)  -- fill-requires, same-length, returns
+    (λ c. search lines-laws) (λ c κs. search lines-laws) (λ c κs. search lines-laws)  -- add-line, line-requires, fill-requires-2
+    (λ c κs. search lines-laws) (λ c. search lines-laws) (λ c. search lines-laws))  -- fill-requires-3, same-length-2, returns-2

@@ -8,21 +8,11 @@ pub gather-spec : {M : Type 1} → statement M
 gather-spec =
     tie.close
     (tie.spec
-    (λ c κs. search gather-laws)  -- gather-new-requires
-    (λ c. search gather-laws)  -- same-length
-    (λ c. search gather-laws)  -- returns
-    (λ c κs. search gather-laws)  -- fill-requires
-    (λ c. search gather-laws)  -- add-if3
-    (λ c. search gather-laws)  -- same-length-2
-    (λ c. search gather-laws)  -- returns-2
-    (λ c κs. search gather-laws)  -- length-field-requires
-    (λ c. search gather-laws)  -- same-length-3
-    (λ c. search gather-laws)  -- returns-3
-    (λ c. search gather-laws)  -- add-fill-lines
-    (λ c κs. search gather-laws)  -- fill-lines-requires
-    (λ c. search gather-laws)  -- add-if5
-    (λ c. search gather-laws)  -- add-if5-2
-    (λ c. search gather-laws)  -- same-length-4
+    (λ c κs. search gather-laws) (λ c. search gather-laws) (λ c. search gather-laws)  -- gather-new-requires, same-length, returns
+    (λ c κs. search gather-laws) (λ c. search gather-laws) (λ c. search gather-laws)  -- fill-requires, add-if3, same-length-2
+    (λ c. search gather-laws) (λ c κs. search gather-laws) (λ c. search gather-laws)  -- returns-2, length-field-requires, same-length-3
+    (λ c. search gather-laws) (λ c. search gather-laws) (λ c κs. search gather-laws)  -- returns-3, add-fill-lines, fill-lines-requires
+    (λ c. search gather-laws) (λ c. search gather-laws) (λ c. search gather-laws)  -- add-if5, add-if5-2, same-length-4
     (λ c. search part)  -- returns-4
     (λ c. search gather-laws)  -- same-length-5
     (λ c. search full))  -- returns-5

@@ -10,8 +10,5 @@ unfolding wantOf
 want-spec =
     tie.close
     (tie.spec
-    (λ c. search follow)  -- returns
-    (λ c. search follow)  -- sub-if2
-    (λ c. search follow)  -- sub-result
-    (λ c. search follow)  -- returns-2
+    (λ c. search follow) (λ c. search follow) (λ c. search follow) (λ c. search follow)  -- returns, sub-if2, sub-result, returns-2
     (λ c. search follow))  -- returns-3

@@ -8,7 +8,5 @@ pub receive-refusal-spec : {M : Type 1} → statement M
 receive-refusal-spec =
     tie.close
     (tie.spec
-    (λ c κs. search receive-tests)  -- record-refusal-requires
-    (λ c. search receive-tests)  -- returns
-    (λ c. search receive-tests)  -- returns-2
+    (λ c κs. search receive-tests) (λ c. search receive-tests) (λ c. search receive-tests)  -- record-refusal-requires, returns, returns-2
     (λ c. search receive-tests))  -- returns-3

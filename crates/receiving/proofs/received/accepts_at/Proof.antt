@@ -10,6 +10,4 @@ unfolding acceptsAt
 accepts-at-spec =
     tie.close
     (tie.spec
-    (λ c. search tests)  -- returns
-    (λ c κs. search tests)  -- acceptable-requires
-    (λ c. search tests))  -- returns-2
+    (λ c. search tests) (λ c κs. search tests) (λ c. search tests))  -- returns, acceptable-requires, returns-2

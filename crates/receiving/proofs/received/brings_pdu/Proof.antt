@@ -8,6 +8,4 @@ pub brings-pdu-spec : {M : Type 1} → statement M
 brings-pdu-spec =
     tie.close
     (tie.spec
-    (λ c κs. search deed-laws)  -- accepts-at-requires
-    (λ c κs. search deed-laws)  -- peer-at-requires
-    (λ c. search deed-laws))  -- returns
+    (λ c κs. search deed-laws) (λ c κs. search deed-laws) (λ c. search deed-laws))  -- accepts-at-requires, peer-at-requires, returns

@@ -8,7 +8,5 @@ pub do-long-spec : {M : Type 1} → statement M
 do-long-spec =
     tie.close
     (tie.spec
-    (λ c κs. search deed-laws)  -- cell-requires
-    (λ c κs. search deed-laws)  -- done-requires
-    (λ c. search deed-laws)  -- same-length
+    (λ c κs. search deed-laws) (λ c κs. search deed-laws) (λ c. search deed-laws)  -- cell-requires, done-requires, same-length
     (λ c. search deed-laws))  -- returns

@@ -8,11 +8,6 @@ pub do-pdu-spec : {M : Type 1} → statement M
 do-pdu-spec =
     tie.close
     (tie.spec
-    (λ c κs. search deed-laws)  -- event-of-requires
-    (λ c κs. search deed-laws)  -- cell-requires
-    (λ c κs. search deed-laws)  -- brings-pdu-requires
-    (λ c κs. search deed-laws)  -- byte-at-requires
-    (λ c κs. search deed-laws)  -- abort-for-requires
-    (λ c κs. search deed-laws)  -- done-requires
-    (λ c. search deed-laws)  -- same-length
-    (λ c. search deed-laws))  -- returns
+    (λ c κs. search deed-laws) (λ c κs. search deed-laws) (λ c κs. search deed-laws)  -- event-of-requires, cell-requires, brings-pdu-requires
+    (λ c κs. search deed-laws) (λ c κs. search deed-laws) (λ c κs. search deed-laws)  -- byte-at-requires, abort-for-requires, done-requires
+    (λ c. search deed-laws) (λ c. search deed-laws))  -- same-length, returns

@@ -8,11 +8,6 @@ pub done-spec : {M : Type 1} → statement M
 done-spec =
     tie.close
     (tie.spec
-    (λ c κs. search deed-laws)  -- ten-by-requires
-    (λ c κs. search deed-laws)  -- write-ten-requires
-    (λ c κs. search deed-laws)  -- shows-requires
-    (λ c κs. search deed-laws)  -- after-requires
-    (λ c. search deed-laws)  -- same-length
-    (λ c. search deed-laws)  -- returns
-    (λ c. search deed-laws)  -- same-length-2
-    (λ c. search deed-laws))  -- returns-2
+    (λ c κs. search deed-laws) (λ c κs. search deed-laws) (λ c κs. search deed-laws)  -- ten-by-requires, write-ten-requires, shows-requires
+    (λ c κs. search deed-laws) (λ c. search deed-laws) (λ c. search deed-laws)  -- after-requires, same-length, returns
+    (λ c. search deed-laws) (λ c. search deed-laws))  -- same-length-2, returns-2

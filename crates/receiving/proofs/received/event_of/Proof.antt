@@ -8,6 +8,4 @@ pub event-of-spec : {M : Type 1} → statement M
 event-of-spec =
     tie.close
     (tie.spec
-    (λ c κs. search deed-laws)  -- kind-of-requires
-    (λ c κs. search deed-laws)  -- event-of-kind-requires
-    (λ c. search deed-laws))  -- returns
+    (λ c κs. search deed-laws) (λ c κs. search deed-laws) (λ c. search deed-laws))  -- kind-of-requires, event-of-kind-requires, returns

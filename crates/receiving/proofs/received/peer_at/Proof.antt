@@ -8,8 +8,5 @@ pub peer-at-spec : {M : Type 1} → statement M
 peer-at-spec =
     tie.close
     (tie.spec
-    (λ c κs. search peer-laws)  -- maximum-of-requires
-    (λ c. search peer-laws)  -- returns
-    (λ c κs. search peer-laws)  -- maximum-of-requires-2
-    (λ c. search peer-laws)  -- returns-2
-    (λ c. search peer-laws))  -- returns-3
+    (λ c κs. search peer-laws) (λ c. search peer-laws) (λ c κs. search peer-laws)  -- maximum-of-requires, returns, maximum-of-requires-2
+    (λ c. search peer-laws) (λ c. search peer-laws))  -- returns-2, returns-3
