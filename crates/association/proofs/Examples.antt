@@ -10,7 +10,7 @@ use Rattle.table.specs.EventNames.{RQ-RECEIVED, RELEASE-RQ-RECEIVED, INVALID-RE
 use Rattle.table.specs.Actions.{actions, doesOf, nextOf, artimOf}
 use Rattle.table.specs.Table.{table, cellOf, isReceived}
 use Rattle.association.specs.Record.{Standing, standing, idle, moved, dropping}
-use Rattle.association.specs.Performing.{keeps, requestorAfter, entering, leaving, after, abortFor}
+use Rattle.association.specs.Performing.{bringsNothing, requestorAfter, entering, leaving, after, abortFor}
 use Rattle.association.specs.Machine.{localCell}
 
 -- a requestor, in a state
@@ -18,12 +18,12 @@ abbrev requestor : ℕ → Standing
 requestor n = moved n false true (record { accepts = false; «peer_max» = 32768; deaf = false })
 
 -- AR-3 enters Sta1, so mark and peer maximum go
-pub forgets : leaving (after AR-3 (requestor 7) (keeps (requestor 7))) 0 ≡ idle
+pub forgets : leaving (after AR-3 (requestor 7) (bringsNothing (requestor 7))) 0 ≡ idle
 unfolding leaving after entering requestorAfter nextOf artimOf doesOf actions idle
 forgets = refl
 
 -- AE-5 sets no mark: AE-1 alone does
-pub no-mark : after AE-5 (standing idle) (keeps (standing idle)) .requestor ≡ false
+pub no-mark : after AE-5 (standing idle) (bringsNothing (standing idle)) .requestor ≡ false
 unfolding after entering requestorAfter nextOf artimOf doesOf actions idle
 no-mark = refl
 

@@ -18,7 +18,7 @@ use Rattle.association.specs.declared.Brings.{Brings}
 use Rattle.association.specs.Record.{Standing, dropping}
 use Rattle.association.specs.Events.{Local, eventOf, numberOf, carries}
 use Rattle.association.specs.Events.{Local.plain, Local.confirm, Local.accept, Local.reject, Local.send}
-use Rattle.association.specs.Performing.{keeps, brings, after, abortBy, tenBy}
+use Rattle.association.specs.Performing.{bringsNothing, brings, after, abortBy, tenBy}
 
 -- what a host is told of an event: the action, and the state after
 pub record Seen : Type 0 where
@@ -75,7 +75,7 @@ unfoldable pub requestRefusal : Standing → Local → ℕ → ℕ
 requestRefusal s e room = firstDue (requestTests s e room)
 
 unfoldable pub onLocal : Standing → Local → Reaction Standing Seen
-onLocal s e = doing (localAction s e) s (keeps s) (formAt s e .pdu)
+onLocal s e = doing (localAction s e) s (bringsNothing s) (formAt s e .pdu)
 
 -- ---- the machine of the reference. Its output has the room of any PDU, so that 2 never comes
 abbrev pub upper : Machine

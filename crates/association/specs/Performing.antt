@@ -25,8 +25,8 @@ unfoldable pub peerAt : ℕ → Standing → List ℕ → ℕ
 peerAt action s p = cond (eqb action AE-3 || acceptsAt action p) (maximumOf p) (s .peer)
 
 -- a local event: nothing new
-abbrev pub keeps : Standing → Brings
-keeps s = record { accepts = false; «peer_max» = s .peer; deaf = s .deaf }
+abbrev pub bringsNothing : Standing → Brings
+bringsNothing s = record { accepts = false; «peer_max» = s .peer; deaf = s .deaf }
 
 -- received bytes: whether AE-6 accepts; the peer maximum and deafness ("the invalid event comes at that sixth byte .. and the association is deaf") from now on
 abbrev pub brings : ℕ → Standing → Brought → Brings

@@ -14,7 +14,7 @@ use Rattle.table.specs.Table.{cellOf, isReceived}
 use Rattle.association.specs.Record.{Standing}
 use Rattle.association.specs.Events.{Local, numberOf, carries}
 use Rattle.association.specs.Events.{Local.plain, Local.confirm, Local.accept, Local.reject, Local.send}
-use Rattle.association.specs.Performing.{keeps, after}
+use Rattle.association.specs.Performing.{bringsNothing, after}
 use Rattle.association.specs.Machine.{localCell, localAction, plainForm, formAt, requestRefusal, doing, onLocal}
 use Rattle.association.proofs.OrderLaws.{request-steps, request-passed}
 use Rattle.demand_2.proofs.Unbroken.{Sound}
@@ -77,7 +77,7 @@ request-known s e = rw (request-steps s e 16390) (by (eqb (localAction s e) 0))
 
 -- ---- what is done
 module _ (s : Standing) (e : Local) where
-  pub next-is : onLocal s e .next ≡ after (localAction s e) s (keeps s)
+  pub next-is : onLocal s e .next ≡ after (localAction s e) s (bringsNothing s)
   unfolding onLocal doing
   next-is = refl
 
@@ -95,8 +95,8 @@ module _ (s : Standing) (e : Local) where
     pub cell-own : OwnCell (numberOf e) (s .state)
     cell-own = own-cell (numberOf e) (s .state) acts
 
-    pub next-at : onLocal s e .next ≡ after (cellOf (numberOf e) (s .state)) s (keeps s)
-    next-at = next-is ∙ ap (λ (n : ℕ). after n s (keeps s)) (cell-own .same)
+    pub next-at : onLocal s e .next ≡ after (cellOf (numberOf e) (s .state)) s (bringsNothing s)
+    next-at = next-is ∙ ap (λ (n : ℕ). after n s (bringsNothing s)) (cell-own .same)
 
     pub sound-local : Sound s → Sound (onLocal s e .next)
     sound-local S = rw next-at (sound-keeps s S (numberOf e) (cell-own .filled) (cell-own .own))

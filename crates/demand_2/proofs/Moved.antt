@@ -12,7 +12,7 @@ use Rattle.table.specs.Actions.{nextOf}
 use Rattle.association.specs.declared.Assoc.{Assoc}
 use Rattle.association.specs.Record.{Standing, standing, withGathered, dropping, badLength}
 use Rattle.association.specs.Events.{Local, numberOf}
-use Rattle.association.specs.Performing.{keeps, after, entering, leaving}
+use Rattle.association.specs.Performing.{bringsNothing, after, entering, leaving}
 use Rattle.association.specs.Machine.{onLocal, requestRefusal}
 use Rattle.association.proofs.RefusalLaws.{few-gathered}
 use Rattle.demand_2.proofs.Unbroken.{never, Sound, Whole, Fine}
@@ -21,7 +21,7 @@ use Rattle.demand_2.proofs.Given.{cell-own, next-at, sound-local}
 
 module _ (s : Standing) (S : Sound s) (e : ℕ) (f : 0 < cellOf e (s .state)) (n : ℕ) (none : dropping s ≡ true → n ≡ 0) where
   abbrev next : Standing
-  next = after (cellOf e (s .state)) s (keeps s)
+  next = after (cellOf e (s .state)) s (bringsNothing s)
 
   abbrev to : ℕ
   to = nextOf (cellOf e (s .state)) false (s .requestor)
@@ -46,7 +46,7 @@ module _ (a : Assoc) (e : Local) (room : ℕ) (w : Whole a) (h : requestRefusal 
   unfolding leaving
   local-left =
       rw (next-at (standing a) e room h)
-      (ap (withGathered (after (cellOf (numberOf e) (a .state)) (standing a) (keeps (standing a))))
+      (ap (withGathered (after (cellOf (numberOf e) (a .state)) (standing a) (bringsNothing (standing a))))
       (same-count (standing a) (w .sound) (numberOf e) (cell-own (standing a) e room h .filled) (a .gathered) (w .dropped)))
 
 -- with no bytes gathered, or with those that were

@@ -14,7 +14,7 @@ use Rattle.table.proofs.Right.{hears, leads-to, heard-filled}
 use Rattle.association.specs.declared.Brings.{Brings}
 use Rattle.association.specs.Record.{Standing, moved, cleared, dropping, timed}
 use Rattle.association.specs.Events.{eventOf, eventOfKind}
-use Rattle.association.specs.Performing.{keeps, after, entering, requestorAfter}
+use Rattle.association.specs.Performing.{bringsNothing, after, entering, requestorAfter}
 use Rattle.association.specs.Machine.{doing, onEvent}
 use Rattle.demand_2.proofs.Unbroken.{never, Sound}
 use Rattle.demand_2.proofs.Moves.{received-by, timer-runs, not-4, from-13, to-13}
@@ -79,8 +79,8 @@ module _ (s : Standing) (S : Sound s) (e : ℕ) (f : 0 < cellOf e (s .state)) wh
           let q : (eqb (to false) 4 || s .deaf) ≡ false = rw (ne-eqb (to false) 4 (not-4 e (s .state) f (h .not-1) false (s .requestor))) (h .hearing) in
           never _ q t
 
-  pub sound-keeps : isReceived e ≡ false → Sound (after (cellOf e (s .state)) s (keeps s))
-  sound-keeps r = sound-after (keeps s) (λ d n. absurd (n (from-13 e (s .state) f r (S .deaf d) (s .requestor))))
+  pub sound-keeps : isReceived e ≡ false → Sound (after (cellOf e (s .state)) s (bringsNothing s))
+  sound-keeps r = sound-after (bringsNothing s) (λ d n. absurd (n (from-13 e (s .state) f r (S .deaf d) (s .requestor))))
 
 -- ---- bytes that are heard
 module _ (s : Standing) (S : Sound s) (h : dropping s ≡ false) where

@@ -33,7 +33,7 @@ use Rattle.table.specs.Table.{table, cellOf, isReceived}
 use Rattle.table.specs.Actions.{actions, doesOf, nextOf, showsOf, artimOf}
 use Rattle.association.specs.Record.{Standing, standing, withGathered, moved, idle, dropping}
 use Rattle.association.specs.Events.{Local, eventOfKind, eventOf, carries, transportIndication}
-use Rattle.association.specs.Performing.{keeps, acceptsAt, peerAt, requestorAfter, entering, after as left, tenBy}
+use Rattle.association.specs.Performing.{bringsNothing, acceptsAt, peerAt, requestorAfter, entering, after as left, tenBy}
 use Rattle.association.specs.Machine.{Seen, upper, doing, onEvent, localCell, localAction, plainForm, formAt, requestRefusal, onLocal}
 use Rattle.association.specs.Calls.{Call}
 use Rattle.demand_3.specs.Calls.{Lent, fresh, machine, entryOf, seenOf, boxOf, freshBox, boxedBy, wanted, Demand3}
@@ -66,7 +66,7 @@ saw action state sent = record { told = record { action = action; state = state 
 
 -- a fresh association that was moved to a state in which the timer runs
 abbrev timing : ℕ → Standing
-timing state = moved state true false (keeps (standing idle))
+timing state = moved state true false (bringsNothing (standing idle))
 
 -- the engine of framing in Sta2
 abbrev open-2 : List ℕ → List ℕ → eng.EngineState upper
@@ -96,17 +96,17 @@ unfolding eventOf eventOfKind kindOf whole validAs releaseOk abortPduOk abortOk 
 events = record { release = λ s. refl; aborts = λ s. refl }
 
 record Acts : Type 0 where
-  AE-5-acts : doing AE-5 (standing idle) (keeps (standing idle)) [] ≡ acted AE-5 (timing 2) []
-  AA-1-acts : doing AA-1 (timing 2) (keeps (timing 2)) abort ≡ acted AA-1 (timing 13) abort
-  AA-2-acts : doing AA-2 (timing 13) (keeps (timing 13)) [] ≡ acted AA-2 (standing idle) []
+  AE-5-acts : doing AE-5 (standing idle) (bringsNothing (standing idle)) [] ≡ acted AE-5 (timing 2) []
+  AA-1-acts : doing AA-1 (timing 2) (bringsNothing (timing 2)) abort ≡ acted AA-1 (timing 13) abort
+  AA-2-acts : doing AA-2 (timing 13) (bringsNothing (timing 13)) [] ≡ acted AA-2 (standing idle) []
 
 acts : Acts
 unfolding idle doing left entering requestorAfter nextOf artimOf showsOf doesOf actions
 acts = record { AE-5-acts = refl; AA-1-acts = refl; AA-2-acts = refl }
 
 record Leads : Type 0 where
-  releases : onEvent RELEASE-RQ-RECEIVED (timing 2) (pdu releaseRq) ≡ doing AA-1 (timing 2) (keeps (timing 2)) abort
-  aborts : onEvent ABORT-RECEIVED (timing 13) (pdu abort) ≡ doing AA-2 (timing 13) (keeps (timing 13)) []
+  releases : onEvent RELEASE-RQ-RECEIVED (timing 2) (pdu releaseRq) ≡ doing AA-1 (timing 2) (bringsNothing (timing 2)) abort
+  aborts : onEvent ABORT-RECEIVED (timing 13) (pdu abort) ≡ doing AA-2 (timing 13) (bringsNothing (timing 13)) []
 
 leads : Leads
 unfolding idle onEvent cellOf table acceptsAt peerAt tenBy doesOf actions tenOf tens

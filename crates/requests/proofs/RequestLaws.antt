@@ -23,7 +23,7 @@ use Rattle.association.specs.declared.Answer.{Answer}
 use Rattle.association.specs.Record.{standing}
 use Rattle.association.specs.Refusals.{recordTests, recordRefusal, refusedWith}
 use Rattle.association.specs.Events.{Local, Local.plain, carries}
-use Rattle.association.specs.Performing.{keeps, leaving, after, tenBy}
+use Rattle.association.specs.Performing.{bringsNothing, leaving, after, tenBy}
 use Rattle.association.specs.Machine.{doing, localCell, localAction, plainForm, formAt, onLocal}
 use Rattle.association.specs.Calls.{call, unless, localRefusal, localOf}
 use Rattle.association.proofs.RefusalLaws.{tests}
@@ -53,7 +53,7 @@ module _ (a : Assoc) (action : ℕ) (s : Sent) where
   unfolding finishOf
   finish-refused r n e = rw (ne-eqb (s .refusal) 0 n) e
 
-  pub finish-done : (n : Assoc) → s .refusal ≡ 0 → n ≡ leaving (after action (standing a) (keeps (standing a))) (a .gathered)
+  pub finish-done : (n : Assoc) → s .refusal ≡ 0 → n ≡ leaving (after action (standing a) (bringsNothing (standing a))) (a .gathered)
       → _≡_ {A = Answer} (record { told = record { refusal = s .refusal; action = action; used = 0; sent = s .count; shown = 0 }; assoc = n }) (finishOf a action s)
   unfolding finishOf doneLocally
   finish-done n z e = rw (eq-eqb (s .refusal) 0 z, z, e)

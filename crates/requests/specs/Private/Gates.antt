@@ -10,7 +10,7 @@ use Rattle.association.specs.declared.Assoc.{Assoc}
 use Rattle.association.specs.declared.Answer.{Answer}
 use Rattle.association.specs.Record.{standing}
 use Rattle.association.specs.Refusals.{recordTests, refusedWith}
-use Rattle.association.specs.Performing.{keeps, leaving, after}
+use Rattle.association.specs.Performing.{bringsNothing, leaving, after}
 
 -- 6, 3, 6 for L, and 1
 unfoldable pub gateRefusal : Assoc → List ℕ → ℕ → ℕ
@@ -21,7 +21,7 @@ unfoldable pub doneLocally : Assoc → ℕ → ℕ → Answer
 doneLocally a action sent =
     record {
       told = record { refusal = NOT-REFUSED; action = action; used = 0; sent = sent; shown = 0 };
-      assoc = leaving (after action (standing a) (keeps (standing a))) (a .gathered);
+      assoc = leaving (after action (standing a) (bringsNothing (standing a))) (a .gathered);
     }
 
 -- the writer refused, or the action is done
