@@ -8,13 +8,13 @@ use native.Mathlib.Omega.{arith}
 use native.Mathlib.Decide.{decLt}
 use lib.Dec.{T, eqb, ltb, eqb→eq}
 use borrow.Author.Tests.{eq-eqb, ne-eqb, eqb-false, ltb-true}
-use Rattle.laws.specs.Lists.{among}
 use Rattle.laws.proofs.Booleans.{holds, T-left, T-right}
 use Rattle.laws.proofs.Below.{allBelow, below}
 use Rattle.table.specs.EventNames.{INVALID-RECEIVED}
-use Rattle.table.specs.Table.{table, cellOf, isReceived}
-use Rattle.table.specs.Actions.{actions, doesOf, nextOf, artimOf}
+use Rattle.table.specs.Table.{cellOf, isReceived}
+use Rattle.table.specs.Actions.{nextOf, artimOf}
 use Rattle.table.proofs.Right.{filled, each-filled}
+use Rattle.table.proofs.Unfolded.{table-unfolded}
 use Rattle.association.specs.Record.{timed}
 use Rattle.association.specs.Events.{eventOfKind}
 
@@ -42,7 +42,7 @@ abbrev timing : ℕ → ℕ → Bool
 timing e s = both (λ p. both (λ q. Bool·beq (artimOf (cellOf e s) p (timed s)) (timed (nextOf (cellOf e s) p q))))
 
 timings : T (filled timing)
-unfolding cellOf table artimOf nextOf doesOf actions timed
+unfolding table-unfolded timed
 timings = tt
 
 pub timer-runs : (e s : ℕ) → 0 < cellOf e s → (p q : Bool) → artimOf (cellOf e s) p (timed s) ≡ timed (nextOf (cellOf e s) p q)
@@ -57,7 +57,7 @@ abbrev notFour : ℕ → ℕ → Bool
 notFour e s = cond (eqb s 1) true (both (λ q. both (λ p. not (eqb (nextOf (cellOf e s) p q) 4))))
 
 fours : T (filled notFour)
-unfolding cellOf table nextOf doesOf actions
+unfolding table-unfolded
 fours = tt
 
 pub not-4 : (e s : ℕ) → 0 < cellOf e s → (s ≡ 1 → ⊥) → (p q : Bool) → nextOf (cellOf e s) p q ≡ 4 → ⊥
@@ -72,7 +72,7 @@ abbrev away : ℕ → ℕ → Bool
 away e s = cond (isReceived e) true (cond (eqb s 13) (both (λ q. eqb (nextOf (cellOf e s) false q) 1)) true)
 
 aways : T (filled away)
-unfolding cellOf table nextOf doesOf actions isReceived among
+unfolding table-unfolded
 aways = tt
 
 pub from-13 : (e s : ℕ) → 0 < cellOf e s → isReceived e ≡ false → s ≡ 13 → (q : Bool) → nextOf (cellOf e s) false q ≡ 1
@@ -84,7 +84,7 @@ abbrev closing : ℕ → ℕ → Bool
 closing e s = cond (eqb e INVALID-RECEIVED) (both (λ q. eqb (nextOf (cellOf e s) false q) 13)) true
 
 closings : T (filled closing)
-unfolding cellOf table nextOf doesOf actions
+unfolding table-unfolded
 closings = tt
 
 pub to-13 : (s : ℕ) → 0 < cellOf INVALID-RECEIVED s → (q : Bool) → nextOf (cellOf INVALID-RECEIVED s) false q ≡ 13
@@ -116,11 +116,11 @@ abbrev brought : ℕ → ℕ → Bool
 brought k e = isReceived e && (ltb 0 e && ltb e 20)
 
 broughts : T (allBelow 8 (λ k. brought k (eventOfKind k)))
-unfolding eventOfKind isReceived among
+unfolding table-unfolded eventOfKind
 broughts = tt
 
 pub received-by : (k : ℕ) → Received (eventOfKind k)
-unfolding isReceived among
+unfolding table-unfolded
 received-by k =
     let t = each-kind brought broughts (λ k h. tt) k in
     let e = eventOfKind k in

@@ -15,9 +15,10 @@ use Rattle.reasons.specs.Values.{rejectReasons, rejectOk, abortOk}
 use Rattle.judging.specs.Pdu.{whole, validAs, rejectPduOk, releaseOk, abortPduOk, kindOf}
 use Rattle.writing.specs.Ten.{NO-TEN, ABORT-UNRECOGNIZED, ABORT-UNEXPECTED, ABORT-INVALID, tens, tenOf}
 use Rattle.table.specs.EventNames.{INVALID-RECEIVED}
-use Rattle.table.specs.Table.{table, cellOf, isReceived}
-use Rattle.table.specs.Actions.{actions, doesOf, nextOf}
+use Rattle.table.specs.Table.{cellOf, isReceived}
+use Rattle.table.specs.Actions.{nextOf}
 use Rattle.table.proofs.Right.{filled, each-filled}
+use Rattle.table.proofs.Unfolded.{table-unfolded}
 use Rattle.association.specs.Events.{carries}
 use Rattle.association.specs.Performing.{abortFor, tenBy}
 use Rattle.demand_2.proofs.Moves.{beq-eq, both, both-at}
@@ -81,12 +82,12 @@ abbrev givenRight : ℕ → ℕ → Bool
 givenRight event action = both (λ q. eqb (naming action false q) (givenKind event action)) && Bool·beq (sendsContents action) (carries event)
 
 tested : T (filled (λ e s. cond (isReceived e) (heardRight (cellOf e s)) (givenRight e (cellOf e s))))
-unfolding cellOf table isReceived carries among kindNamed nextOf doesOf actions tenBy sendsContents
+unfolding table-unfolded carries kindNamed tenBy sendsContents
 tested = tt
 
 -- no action at all
 blank : T (heardRight 0)
-unfolding kindNamed nextOf doesOf actions tenBy
+unfolding table-unfolded kindNamed tenBy
 blank = tt
 
 module _ (e s : ℕ) where

@@ -22,7 +22,7 @@ use Rattle.writing.proofs.FormLaws.{answered}
 use Rattle.round_trips.proofs.SentTrip.{sent-rq, sent-ac, sent-reject, sent-data}
 use Rattle.table.specs.EventNames.{INVALID-RECEIVED}
 use Rattle.table.specs.Table.{cellOf, isReceived}
-use Rattle.table.specs.Actions.{actions, doesOf}
+use Rattle.table.proofs.Unfolded.{table-unfolded}
 use Rattle.association.specs.declared.Assoc.{Assoc}
 use Rattle.association.specs.Record.{Standing, standing, dropping}
 use Rattle.association.specs.Events.{Local, eventOf, numberOf, carries}
@@ -68,7 +68,7 @@ module _ (o bs : List ℕ) (c : Call) (eo : c .out ≡ front o bs) (es : c .answ
 -- ---- receiving
 
 no-action : (s : ℕ) → kindNamed 0 s ≡ 0
-unfolding kindNamed doesOf actions
+unfolding table-unfolded kindNamed
 no-action s = refl
 
 -- no event came
@@ -88,7 +88,7 @@ acts-named event u n k s v l r w =
     (ap (kindNamed act) (entering-state _) ∙ heard-named event (s .state) r accepts (s .requestor) (abortBy event v) w)
 
 invalid-received : isReceived INVALID-RECEIVED ≡ true
-unfolding isReceived among
+unfolding table-unfolded
 invalid-received = refl
 
 received-named : (b : Bool) (f : Frame) (a : Assoc) (g p o : List ℕ) → AsNamed (heard (eng.receiveBy upper b f (lentOf a g o) p))

@@ -5,12 +5,12 @@ use mathlib.Core.Path.{_≡_, refl, sym, ap, _∙_}
 use mathlib.Core.Bool.{false}
 use mathlib.Core.List.{[]}
 use native.Mathlib.Omega.{arith}
-use Rattle.laws.specs.Lists.{among}
 use Rattle.writing.specs.Ten.{tens, tenOf}
 use Rattle.table.specs.ActionNames.{AE-1, AE-5}
 use Rattle.table.specs.EventNames.{ASSOCIATE-REQUEST, TRANSPORT-INDICATION}
-use Rattle.table.specs.Table.{table, cellOf, isReceived}
-use Rattle.table.specs.Actions.{actions, doesOf, nextOf}
+use Rattle.table.specs.Table.{cellOf}
+use Rattle.table.specs.Actions.{nextOf}
+use Rattle.table.proofs.Unfolded.{table-unfolded}
 use Rattle.association.specs.declared.Assoc.{Assoc}
 use Rattle.association.specs.Record.{standing, idle}
 use Rattle.association.specs.Events.{Local, carries, transportIndication, associateRequest}
@@ -32,7 +32,7 @@ record Fresh : Type 0 where
   to-2 : nextOf (cellOf TRANSPORT-INDICATION 1) false (idle .requestor) ≡ 2
 
 fresh : Fresh
-unfolding idle requestRefusal localCell plainForm carries among isReceived cellOf table tenBy tenOf tens nextOf doesOf actions
+unfolding table-unfolded idle requestRefusal localCell plainForm carries tenBy tenOf tens
 fresh = record { state = refl; indicated = refl; requested = refl; at-5 = refl; at-1 = refl; to-2 = refl }
 
 -- nor are they for the record's sake

@@ -10,7 +10,6 @@ use native.Mathlib.Decide.{decLt}
 use lib.Dec.{T, eqb}
 use lib.ListN.{length}
 use borrow.Author.Tests.{ne-eqb, eqb-true}
-use Rattle.laws.specs.Lists.{among}
 use Rattle.laws.proofs.Below.{allBelow, below}
 use Rattle.framing.specs.Runs.{Ran}
 use Rattle.framing.specs.Framing.{Brought}
@@ -23,9 +22,10 @@ use Rattle.framing.specs.Taken.{those}
 use Rattle.framing.proofs.Steps.{exactly, shown-exactly}
 use Rattle.judging.specs.Pdu.{kindOf}
 use Rattle.table.specs.EventNames.{INVALID-RECEIVED}
-use Rattle.table.specs.Table.{table, cellOf, isReceived}
-use Rattle.table.specs.Actions.{actions, doesOf, showsOf}
+use Rattle.table.specs.Table.{cellOf, isReceived}
+use Rattle.table.specs.Actions.{showsOf}
 use Rattle.table.proofs.Right.{past-rows, past-columns}
+use Rattle.table.proofs.Unfolded.{table-unfolded}
 use Rattle.association.specs.Record.{Standing}
 use Rattle.association.specs.Events.{Local, eventOf, eventOfKind, numberOf}
 use Rattle.association.specs.Machine.{Seen, upper, localCell, doing, onEvent, onLocal, requestRefusal}
@@ -41,7 +41,7 @@ abbrev rightAt : ℕ → ℕ → Bool
 rightAt e s = Bool·beq (indicates (cellOf e s)) (eqb e 10 && takesData s)
 
 tested : T (allBelow 20 (λ e. allBelow 14 (λ s. rightAt e s)))
-unfolding cellOf table indicates takesData
+unfolding table-unfolded indicates takesData
 tested = tt
 
 not-there : (s : ℕ) → 14 ≤ s → takesData s ≡ false
@@ -71,7 +71,7 @@ is-data k = beq-eq _ _ (each-kind kindRight kinds (λ k h. rw (ne-eqb k 4 (λ z.
 -- ---- the premises of `exactly`
 
 ten-received : isReceived 10 ≡ true
-unfolding isReceived among
+unfolding table-unfolded
 ten-received = refl
 
 none-indicated : indicates 0 ≡ false
@@ -108,7 +108,7 @@ never-by s e x false q = let z : _≡_ {A = ℕ} 0 1 = cc in absurd (omega arith
 
 -- DT-2 and AR-6 show their PDU
 shows-at : (action : ℕ) (b : Bool) → indicates action ≡ true → showsOf action b ≡ true
-unfolding indicates showsOf doesOf actions
+unfolding table-unfolded indicates
 shows-at action b h = by (eqb action 10) refl (eqb action 16) refl h
   where
     by : (x : Bool) → eqb action 10 ≡ x → (y : Bool) → eqb action 16 ≡ y → (x || y) ≡ true → showsOf action b ≡ true

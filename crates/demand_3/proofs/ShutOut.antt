@@ -8,7 +8,7 @@ use mathlib.Core.List.{List, [], _∷_, _++_}
 use native.Mathlib.Omega.{arith}
 use lib.Dec.{eqb}
 use lib.ListN.{length}
-use Rattle.laws.specs.Lists.{among, joined}
+use Rattle.laws.specs.Lists.{joined}
 use Rattle.octets.specs.Octets.{be16, be32}
 use Rattle.octets.specs.Put.{put, front}
 use Rattle.framing.specs.Runs.{Ran, runs, following}
@@ -29,8 +29,7 @@ use Rattle.judging.specs.Pdu.{whole, releaseOk, abortPduOk, validAs, kindOf}
 use Rattle.writing.specs.Ten.{tens, tenOf}
 use Rattle.table.specs.ActionNames.{AE-5, AA-1, AA-2}
 use Rattle.table.specs.EventNames.{RELEASE-RQ-RECEIVED, ABORT-RECEIVED}
-use Rattle.table.specs.Table.{table, cellOf, isReceived}
-use Rattle.table.specs.Actions.{actions, doesOf, nextOf, showsOf, artimOf}
+use Rattle.table.proofs.Unfolded.{table-unfolded}
 use Rattle.association.specs.Record.{Standing, standing, withGathered, moved, idle, dropping}
 use Rattle.association.specs.Events.{Local, eventOfKind, eventOf, carries, transportIndication}
 use Rattle.association.specs.Performing.{bringsNothing, acceptsAt, peerAt, requestorAfter, entering, after as left, tenBy}
@@ -84,7 +83,7 @@ record Asked : Type 0 where
   sent : formAt (standing idle) transportIndication .pdu ≡ []
 
 asked : Asked
-unfolding idle requestRefusal localCell isReceived among cellOf table plainForm carries tenBy doesOf actions tenOf tens
+unfolding table-unfolded idle requestRefusal localCell plainForm carries tenBy tenOf tens
 asked = record { free = refl; action = refl; sent = refl }
 
 record Events : Type 0 where
@@ -101,7 +100,7 @@ record Acts : Type 0 where
   AA-2-acts : doing AA-2 (timing 13) (bringsNothing (timing 13)) [] ≡ acted AA-2 (standing idle) []
 
 acts : Acts
-unfolding idle doing left entering requestorAfter nextOf artimOf showsOf doesOf actions
+unfolding table-unfolded idle doing left entering requestorAfter
 acts = record { AE-5-acts = refl; AA-1-acts = refl; AA-2-acts = refl }
 
 record Leads : Type 0 where
@@ -109,7 +108,7 @@ record Leads : Type 0 where
   aborts : onEvent ABORT-RECEIVED (timing 13) (pdu abort) ≡ doing AA-2 (timing 13) (bringsNothing (timing 13)) []
 
 leads : Leads
-unfolding idle onEvent cellOf table acceptsAt peerAt tenBy doesOf actions tenOf tens
+unfolding table-unfolded idle onEvent acceptsAt peerAt tenBy tenOf tens
 leads = record { releases = refl; aborts = refl }
 
 opens : onLocal (standing idle) transportIndication ≡ acted AE-5 (timing 2) []
