@@ -1,19 +1,21 @@
-// Buffers: made, filled with given bytes, the first bytes of one, and its digest.
+// Buffers: how long, filled with given bytes, the first bytes of one, and its digest.
 ghost use Prim.Native.Nat.{_<_};
 
-// Room for the longest line that is a call, and two bytes behind it.
-pub(crate) fn line() -> [u8; 270002] {
-    [0; 270002]
-}
+// The most bytes of a gather buffer or an output, and of a sheet.
+pub(crate) const BUFFER: usize = 17000;
+
+pub(crate) const SHEET: usize = 66000;
+
+// What stands in each before a call.
+pub(crate) const IN_GATHER: u8 = 0xA5;
+
+pub(crate) const IN_OUTPUT: u8 = 0x5A;
+
+pub(crate) const IN_SHEET: u8 = 0xC3;
 
 // Room for a gather buffer or an output, of bytes b.
-pub(crate) fn buffer(b: u8) -> [u8; 17000] {
-    [b; 17000]
-}
-
-// Room for a sheet, of bytes C3H.
-pub(crate) fn sheet() -> [u8; 66000] {
-    [0xC3; 66000]
+pub(crate) fn buffer(b: u8) -> [u8; BUFFER] {
+    [b; BUFFER]
 }
 
 // Byte i of some, b behind them.
@@ -38,12 +40,15 @@ pub(crate) fn front(buffer: &mut [u8], n: usize) -> &mut [u8] {
     buffer
 }
 
+// A prime below 2^32.
+const MODULUS: u64 = 4294967291;
+
 // A digest with one byte more.
 fn mixed(h: u64, b: u8) -> u64
     requires { ⌜ h < 4294967291 ⌝ }
     ensures { λ r. ⌜ r < 4294967291 ⌝ }
 {
-    (h * 257 + b as u64 + 1) % 4294967291
+    (h * 257 + b as u64 + 1) % MODULUS
 }
 
 // The digest of the first n bytes of a buffer.

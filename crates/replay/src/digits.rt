@@ -1,11 +1,8 @@
 // Words as digits: numbers are decimal, byte strings lower-case hex, `-` for the empty one.
+use crate::words::BROKEN;
+use crate::words::Word;
 ghost use Prim.Native.Nat.{_≤_, _<_};
-
-// One word: its number, and where it ends; 0 where it is not of its kind.
-pub(crate) struct Word {
-    pub(crate) number: u64,
-    pub(crate) next: usize,
-}
+ghost use lib.ListN.{length};
 
 // The value of a hex digit, or 16.
 fn digit(b: u8) -> u64
@@ -22,12 +19,21 @@ fn digit(b: u8) -> u64
     16
 }
 
+// The word from start to end; a word has one digit at the least.
+fn word(number: u64, start: usize, end: usize) -> Word {
+    Word {
+        number,
+        start,
+        next: if start < end { end } else { BROKEN },
+    }
+}
+
 // The number that starts at a place, up to what would make it more than `most`.
-pub(crate) fn number_at(line: &[u8; 270002], at: usize, most: u64) -> Word {
+pub(crate) fn number_at(line: &[u8], start: usize, most: u64) -> Word {
     let mut number = 0;
-    let mut i = at;
-    while i < 270002 {
-        let d = digit(line[i]);
+    let mut end = start;
+    while end < line.len() {
+        let d = digit(line[end]);
         if 9 < d {
             break;
         }
@@ -38,15 +44,18 @@ pub(crate) fn number_at(line: &[u8; 270002], at: usize, most: u64) -> Word {
             break;
         }
         number = number * 10 + d;
-        i += 1;
+        end += 1;
     }
-    Word { number, next: i }
+    word(number, start, end)
 }
 
 // The byte that two hex digits at a place say, or 256.
-fn pair(line: &[u8; 270002], i: usize) -> u64
-    requires { ⌜ i < 270001 ⌝ }
+fn pair(line: &[u8], i: usize) -> u64
+    requires { ⌜ i < length (now line) ⌝ }
 {
+    if line.len() - i < 2 {
+        return 256;
+    }
     let high = digit(line[i]);
     let low = digit(line[i + 1]);
     if 15 < high {
@@ -58,32 +67,33 @@ fn pair(line: &[u8; 270002], i: usize) -> u64
     }
 }
 
-// The byte string that starts at a place, of up to `most` bytes, which then stand there.
-pub(crate) fn string_at(line: &mut [u8; 270002], at: usize, most: u64) -> Word
-    requires { ⌜ at < 270002 ⌝ }
-{
-    if line[at] == b'-' {
-        return Word {
-            number: (at as u64) << 18,
-            next: at + 1,
-        };
+// Where a `-` at a place ends; the place itself without one.
+fn past_dash(line: &[u8], at: usize) -> usize {
+    if line.len() <= at {
+        return at;
     }
-    let mut n = 0;
-    let mut i = at;
-    while n < most {
-        if 270000 < i {
-            break;
-        }
-        let b = pair(line, i);
+    if line[at] == b'-' { at + 1 } else { at }
+}
+
+// The byte string that starts at a place, of up to `most` bytes, which then stand there.
+pub(crate) fn bytes_at(line: &mut [u8], start: usize, most: usize) -> Word {
+    let dash = past_dash(line, start);
+    if start < dash {
+        return word(0, start, dash);
+    }
+    let mut len = 0;
+    let mut end = start;
+    while end < line.len() {
+        let b = pair(line, end);
         if 255 < b {
             break;
         }
-        line[at + n as usize] = b as u8;
-        n += 1;
-        i += 2;
+        if most <= len {
+            break;
+        }
+        line[start + len] = b as u8;
+        len += 1;
+        end += 2;
     }
-    Word {
-        number: (at as u64) << 18 | n,
-        next: i,
-    }
+    word(len as u64, start, end)
 }

@@ -1,7 +1,20 @@
 // Lines of standard input, which is read in large pieces.
 use libc::STDIN_FILENO;
 
-// How far a line is taken: its length so far, usize::MAX for one that is too long; what is left of the bytes read, from `at` to `end`.
+// The longest line that is a call.
+const LINE: usize = 270000;
+
+const TOO_LONG: usize = usize::MAX;
+
+// How many bytes are read at a time, by io::large_buffer.
+const READ: usize = 65536;
+
+// Room for a line.
+pub(crate) fn room() -> [u8; LINE] {
+    [0; LINE]
+}
+
+// How far a line is taken: its length so far, TOO_LONG for one that is longer than LINE; what is left of the bytes read, from `at` to `end`.
 // At the end of the input `end` is 0.
 pub(crate) struct Taken {
     pub(crate) len: usize,
@@ -15,17 +28,17 @@ pub(crate) fn is_end(t: Taken) -> bool {
 }
 
 // Puts a byte behind the n of a line, and answers how many it then has.
-fn push(line: &mut [u8; 270002], n: usize, b: u8) -> usize {
-    if n < 270000 {
+fn push(line: &mut [u8], n: usize, b: u8) -> usize {
+    if n < line.len() {
         line[n] = b;
         n + 1
     } else {
-        usize::MAX
+        TOO_LONG
     }
 }
 
 // Reads once, as much as the buffer holds, where no byte is left.
-fn filled(read: &mut [u8; 65536], t: Taken) -> Taken {
+fn filled(read: &mut [u8; READ], t: Taken) -> Taken {
     if t.at < t.end {
         t
     } else {
@@ -39,7 +52,7 @@ fn filled(read: &mut [u8; 65536], t: Taken) -> Taken {
 }
 
 // The next line, without its newline. At the end of the input it is what is left, which may be nothing.
-pub(crate) fn next_line(line: &mut [u8; 270002], read: &mut [u8; 65536], last: Taken) -> Taken {
+pub(crate) fn next_line(line: &mut [u8], read: &mut [u8; READ], last: Taken) -> Taken {
     let mut t = Taken {
         len: 0,
         at: last.at,
@@ -53,7 +66,7 @@ pub(crate) fn next_line(line: &mut [u8; 270002], read: &mut [u8; 65536], last: T
         if f.end <= at {
             break;
         }
-        if 65535 < at {
+        if READ <= at {
             break;
         }
         let b = read[at];

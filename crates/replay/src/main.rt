@@ -1,28 +1,29 @@
-// Takes calls from standard input, one a line, and prints each answer: docs/REPLAY.md has the form.
+// Takes calls from standard input, one a line, and prints each answer: docs/REPLAY.md has the form, and how a call is added.
 mod buffers;
+mod calls;
 mod digits;
-mod kept;
 mod lines;
 mod machine;
-mod plain;
 mod print;
 mod readers;
+mod record;
 mod words;
 mod writers;
 
+use buffers::IN_GATHER;
+use buffers::IN_OUTPUT;
+use buffers::buffer;
+use calls::answered;
 use lines::Taken;
 use lines::is_end;
 use lines::next_line;
-use machine::answered;
-use words::words_in;
 
 fn main() {
     let mut read = io::large_buffer();
-    let mut line = buffers::line();
-    let mut gather = buffers::buffer(0xA5);
-    let mut out = buffers::buffer(0x5A);
-    let mut words = [0u64; 14];
-    let mut kept = kept::first();
+    let mut line = lines::room();
+    let mut gather = buffer(IN_GATHER);
+    let mut out = buffer(IN_OUTPUT);
+    let mut kept = record::first();
     let mut taken = Taken {
         len: 0,
         at: 0,
@@ -34,8 +35,7 @@ fn main() {
         if is_end(t) {
             break;
         }
-        let call = words_in(&mut line, t.len, &mut words);
-        let k = answered(call, &line, &words, kept, &mut gather, &mut out);
+        let k = answered(&mut line, t.len, kept, &mut gather, &mut out);
         kept = k;
         taken = t;
         turns -= 1;

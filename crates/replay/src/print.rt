@@ -1,6 +1,5 @@
 // What a call answers: numbers, or numbers and bytes, printed as one line, or `?`.
 use libc::STDOUT_FILENO;
-ghost use Prim.Native.Nat.{_≤_};
 
 // The answer to a line that is no call.
 pub(crate) fn no_call() {
@@ -28,6 +27,10 @@ pub(crate) fn print(numbers: &[u64]) {
     io::write_all(STDOUT_FILENO, b"\n");
 }
 
+pub(crate) fn yes_or_no(b: bool) {
+    print(&[mark(b)]);
+}
+
 fn two_digits(b: u8) {
     io::print_hex(STDOUT_FILENO, b as u64, 2);
 }
@@ -51,12 +54,4 @@ pub(crate) fn print_with(numbers: &[u64], bytes: &[u8]) {
     io::write_all(STDOUT_FILENO, b" ");
     hex(bytes);
     io::write_all(STDOUT_FILENO, b"\n");
-}
-
-// Prints the first n of seven numbers.
-pub(crate) fn seven(n: usize, a: u64, b: u64, c: u64, d: u64, e: u64, f: u64, g: u64)
-    requires { ⌜ n ≤ 7 ⌝ }
-{
-    let all = [a, b, c, d, e, f, g];
-    print(&all[..n]);
 }

@@ -1,25 +1,28 @@
-// What the calls that read print.
+// The calls that read or judge.
+use crate::buffers::IN_SHEET;
+use crate::buffers::SHEET;
 use crate::buffers::digest;
 use crate::buffers::front;
-use crate::buffers::sheet;
 use crate::print::mark;
+use crate::print::print;
 use crate::print::print_with;
-use crate::print::seven;
-use reading::AbortRead;
+use crate::print::yes_or_no;
+use crate::words::LENT;
+use crate::words::Words;
+use crate::words::bytes;
+use crate::words::number;
 use reading::Associate;
-use reading::RejectRead;
 use titles::Known;
 
-pub(crate) fn kind(pdu: &[u8]) {
-    seven(
-        3,
-        judging::kind_of(pdu) as u64,
-        mark(judging::acceptable(pdu)),
-        judging::maximum_of(pdu) as u64,
-        0,
-        0,
-        0,
-        0,
+// K PDU
+pub(crate) fn kind(line: &[u8], w: &Words) {
+    let pdu = bytes(line, w, 0);
+    print(
+        &[
+            judging::kind_of(pdu) as u64,
+            mark(judging::acceptable(pdu)),
+            judging::maximum_of(pdu) as u64,
+        ],
     );
 }
 
@@ -31,50 +34,47 @@ fn fields(call: u8, pdu: &[u8], sheet: &mut [u8]) -> Associate {
     }
 }
 
-// An RQ or an AC, into a sheet.
-pub(crate) fn associate(call: u8, pdu: &[u8], room: usize) {
-    let mut lent = sheet();
-    let f = fields(call, pdu, front(&mut lent, room));
-    seven(
-        7,
-        f.refusal as u64,
-        f.version as u64,
-        f.application_at as u64,
-        f.application_len as u64,
-        f.maximum as u64,
-        f.records as u64,
-        digest(&lent, room),
+// Q PDU SHEETLEN, A PDU SHEETLEN
+pub(crate) fn associate(call: u8, line: &[u8], w: &Words) {
+    let n = number(w, LENT) as usize;
+    let mut sheet = [IN_SHEET; SHEET];
+    let f = fields(call, bytes(line, w, 0), front(&mut sheet, n));
+    print(
+        &[
+            f.refusal as u64,
+            f.version as u64,
+            f.application_at as u64,
+            f.application_len as u64,
+            f.maximum as u64,
+            f.records as u64,
+            digest(&sheet, n),
+        ],
     );
 }
 
-pub(crate) fn reject(f: RejectRead) {
-    seven(
-        4,
-        f.refusal as u64,
-        f.result as u64,
-        f.source as u64,
-        f.reason as u64,
-        0,
-        0,
-        0,
+// J PDU
+pub(crate) fn reject(line: &[u8], w: &Words) {
+    let f = reading::read_reject(bytes(line, w, 0));
+    print(
+        &[
+            f.refusal as u64,
+            f.result as u64,
+            f.source as u64,
+            f.reason as u64,
+        ],
     );
 }
 
-pub(crate) fn abort(f: AbortRead) {
-    seven(
-        3,
-        f.refusal as u64,
-        f.source as u64,
-        f.reason as u64,
-        0,
-        0,
-        0,
-        0,
-    );
+// B PDU
+pub(crate) fn abort(line: &[u8], w: &Words) {
+    let f = reading::read_abort(bytes(line, w, 0));
+    print(&[f.refusal as u64, f.source as u64, f.reason as u64]);
 }
 
-// A PDV by its number, with its fragment.
-pub(crate) fn data(pdu: &[u8], number: usize) {
+// D PDU NUMBER
+pub(crate) fn data(line: &[u8], w: &Words) {
+    let pdu = bytes(line, w, 0);
+    let number = number(w, 1) as usize;
     let f = reading::read_data(pdu, number);
     let numbers = [
         f.refusal as u64,
@@ -86,14 +86,31 @@ pub(crate) fn data(pdu: &[u8], number: usize) {
     print_with(&numbers, reading::fragment(pdu, number));
 }
 
-pub(crate) fn title(k: Known) {
-    match k {
-        Known::Yes => seven(2, 0, 1, 0, 0, 0, 0, 0),
-        Known::No => seven(2, 0, 0, 0, 0, 0, 0, 0),
-        Known::Refused => seven(2, 4, 0, 0, 0, 0, 0, 0),
+fn two(refusal: u8, known: u64) {
+    print(&[refusal as u64, known]);
+}
+
+// T OWN SOUGHT
+pub(crate) fn title_known(line: &[u8], w: &Words) {
+    let known = titles::title_known(bytes(line, w, 0), bytes(line, w, 1));
+    match known {
+        Known::Yes => two(numbers::NOT_REFUSED, 1),
+        Known::No => two(numbers::NOT_REFUSED, 0),
+        Known::Refused => two(numbers::BAD_CONTENTS, 0),
     }
 }
 
-pub(crate) fn whether(b: bool) {
-    seven(1, mark(b), 0, 0, 0, 0, 0, 0);
+// N NAME
+pub(crate) fn name_ok(line: &[u8], w: &Words) {
+    yes_or_no(names::name_ok(bytes(line, w, 0)));
+}
+
+// V TITLE
+pub(crate) fn title_ok(line: &[u8], w: &Words) {
+    yes_or_no(titles::title_ok(bytes(line, w, 0)));
+}
+
+// E TITLE TITLE
+pub(crate) fn titles_equal(line: &[u8], w: &Words) {
+    yes_or_no(titles::titles_equal(bytes(line, w, 0), bytes(line, w, 1)));
 }

@@ -2,14 +2,15 @@
 -- Assumes nothing.
 use borrow.Author.Needs.{needs}
 use Prim.Native.Nat.{_≤_, _-_}
+use lib.ListN.{length}
 use Rattle.replay.proofs.digits.number_at.Statement.{statement}
 use Rattle.replay.proofs.digits.number_at.Tie as tie
 
 abbrev Inv-loop : tie.InvT-loop
-Inv-loop line at most number₀ i₀ number i = at ≤ i
+Inv-loop line start most number₀ end₀ number end = start ≤ end
 
 abbrev μ-loop : tie.MeasureT-loop
-μ-loop line at most number₀ i₀ number i = 270002 - i
+μ-loop line start most number₀ end₀ number end = length line - end
 
 pub number-at-spec : {M : Type 1} → statement M
 number-at-spec =
@@ -18,14 +19,12 @@ number-at-spec =
     Inv-loop
     μ-loop
     (λ c. search needs)  -- loop-holds
-    (λ c. search needs)  -- element-copy-out-digit
+    (λ c. search needs)  -- shared-slice-read-digit
     (λ c κs. search needs)  -- digit-requires
     (λ c. search needs)  -- mul-number
     (λ c. search needs)  -- add-number
-    (λ c. search needs)  -- add-i
+    (λ c. search needs)  -- add-end
     (λ c. search needs)  -- loop-less
     (λ c. search needs)  -- loop-again
-    (λ c. search needs)  -- returns
-    (λ c. search needs)  -- returns-2
-    (λ c. search needs)  -- returns-3
-    (λ c. search needs))  -- returns-4
+    (λ c κs. search needs)  -- word-requires
+    (λ c. search needs))  -- returns
