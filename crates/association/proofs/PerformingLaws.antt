@@ -39,7 +39,7 @@ pub is-after : (action : ℕ) (a : Assoc) (b : Brings) (n s : ℕ) (t q : Bool) 
 unfolding after
 is-after action a b n s t q r es et eq er = rw (er, es, et, eq)
 
-pub ruleset deed-laws = (needs, enters-1, enters-else, is-after)
+pub ruleset performing-laws = (needs, enters-1, enters-else, is-after)
 
 -- ---- `ten_by`: the numbers that the table's code answers, one after the other
 unfoldable pub tenNumbered : ℕ → ℕ → ℕ

@@ -1,4 +1,4 @@
--- What an action does: the record that it leaves, and the PDU that it sends by itself. Nothing here knows of Table 9-10.
+-- What an action does: the record that it leaves, and the PDU that it sends by itself. Nothing here looks up a cell of Table 9-10.
 use Prim.Native.Nat.{ℕ}
 use mathlib.Core.Bool.{Bool, true, false, cond, _&&_, _||_}
 use mathlib.Core.List.{List}

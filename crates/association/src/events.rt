@@ -1,4 +1,4 @@
-// The events by their numbers.
+// The events by their numbers; the A-ABORT that answers a received one, the cell of a local one.
 ghost use mathlib.Core.Path.{_≡_};
 ghost use Rattle.association.specs.Events.{eventOfKind};
 ghost use Rattle.association.specs.Performing.{abortFor};

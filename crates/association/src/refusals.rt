@@ -1,4 +1,4 @@
-// A fresh record; refusals 6 and 3.
+// A fresh record; refusals 6 and 3; whether bytes are dropped; the length field; a refused answer.
 use crate::Answer;
 use crate::Assoc;
 use crate::Told;

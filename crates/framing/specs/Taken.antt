@@ -1,4 +1,4 @@
--- Steps: which events of the bytes a machine takes in a script, each with the record that it met. For 'data is indicated exactly'.
+-- Taken: which events of the bytes a machine takes in a script, each with the record that it met. For 'data is indicated exactly'.
 use Prim.Native.Nat.{ℕ}
 use mathlib.Core.Bool.{Bool, cond}
 use mathlib.Core.List.{List, [], _∷_, _++_}

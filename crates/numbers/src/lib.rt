@@ -1,4 +1,4 @@
-// Document 01's numbers by name, with the names of include/feohanna.h and of specs/: the refusals, the PDUs' kinds, lengths. Actions and events are in `table`.
+// Document 01's numbers by name, with the names of specs/: the refusals, the PDUs' kinds, lengths. Actions and events are in `table`. The header has the refusals' names too.
 mod kinds;
 mod lengths;
 mod refusals;

@@ -90,4 +90,4 @@ module _ (a : Assoc) (action : ℕ) (o : List ℕ) (u n : ℕ) (r : Answer) (o�
   unfolding onEvent
   pdu-done p event first abort b ev ea eb ef et D = rw (et, ef, eb, ea, ev) at D
 
-pub ruleset deed-laws = (needs, kind-event, pdu-brings, told-shown, told-hidden, long-done, pdu-done)
+pub ruleset received-laws = (needs, kind-event, pdu-brings, told-shown, told-hidden, long-done, pdu-done)

@@ -28,7 +28,7 @@ use Rattle.writing.specs.Wire.{AssociatePdu, associateBytes, ourUser, contextBo
 use Rattle.writing.specs.Form.{Form, formRefusal, sentBytes, rqForm, acForm}
 use Rattle.writing.proofs.FormLaws.{refusal-0}
 use Rattle.round_trips.specs.Trips.{RqTrip, AcTrip, rqRead, acRead}
-use Rattle.round_trips.proofs.FrameTrip.{Apart, top-good, among-top, frame-long}
+use Rattle.round_trips.proofs.PduTrip.{Apart, top-good, among-top, associate-long}
 use Rattle.round_trips.proofs.ContextTrip.{ContextKind, proposing, answering, bodies-short}
 use Rattle.round_trips.proofs.Share.{share, three, first-share}
 use Rattle.round_trips.proofs.SentTrip.{sent-rq, sent-ac}
@@ -71,7 +71,7 @@ module _ {C : Type 0} (k : ContextKind C) (pdu : List ℕ) (n : 74 ≤ length pd
       → f .bodies ≡ map (k .body) (map (k .read) (bodies (k .type) (walk (topItems pdu)))) → length (associateBytes f) ≤ length pdu
   unfolding applicationOf
   shorter f m u a t b =
-      let l = frame-long f m u in
+      let l = associate-long f m u in
       let i = ap length a in
       let x : length (itemsBytes (f .context) (f .bodies)) ≡ length (itemsBytes (k .type) (map (k .body) (map (k .read) (bodies (k .type) (walk (topItems pdu)))))) = rw (t, b) in
       let q = sym (top-good (k .type) (k .apart) (bodies (k .type) (walk (topItems pdu)))) ∙ items-good (k .type) (topItems pdu) g (k .type) (among-top (k .type) (k .apart)) in

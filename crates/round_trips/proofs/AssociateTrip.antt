@@ -30,7 +30,7 @@ use Rattle.writing.specs.Wire.{AssociatePdu, associateItems, associateBytes, pd
 use Rattle.writing.specs.Form.{rqForm, acForm}
 use Rattle.round_trips.specs.Trips.{AssociateTrip, RqTrip, AcTrip, readOf}
 use Rattle.round_trips.proofs.ContextTrip.{ContextKind, proposing, answering, Bodies, bodies-back}
-use Rattle.round_trips.proofs.FrameTrip.{Fits, items-small, frame-kind, frame-version, frame-whole, frame-68, at-middle, at-application, at-place, at-bodies, at-maximum, frame-items-ok}
+use Rattle.round_trips.proofs.PduTrip.{Fits, items-small, associate-kind, frame-version, associate-whole, associate-68, at-middle, at-application, at-place, at-bodies, at-maximum, associate-items-ok}
 
 -- ---- of either: the contexts cs, good and of no ID twice, in the bodies of a PDU that fits
 module _ {C : Type 0} (k : ContextKind C) (f : AssociatePdu) (w : Fits f) (cs : List C) (t : f .context ≡ k .type) (e : f .bodies ≡ map (k .body) cs)
@@ -44,7 +44,7 @@ module _ {C : Type 0} (k : ContextKind C) (f : AssociatePdu) (w : Fits f) (cs : 
   items-ok : nameOk (f .application) ≡ true → itemsOk (f .context) (topItems (associateBytes f)) ≡ true
   items-ok n =
       let b = listed in
-      frame-items-ok f w n (rw (e, length-map cs (k .body)) (left-of _ _ g)) (rw (t, e) (b .good)) (rw e (ap distinct (b .ids) ∙ right-of (all (k .ok) cs) _ some-good))
+      associate-items-ok f w n (rw (e, length-map cs (k .body)) (left-of _ _ g)) (rw (t, e) (b .good)) (rw e (ap distinct (b .ids) ∙ right-of (all (k .ok) cs) _ some-good))
 
   contexts-at : map (k .read) (bodies (f .context) (walk (topItems (associateBytes f)))) ≡ cs
   contexts-at = ap (map (k .read)) (at-bodies f w ∙ e) ∙ listed .back
@@ -140,8 +140,8 @@ module _ (f : RqFields) (g : rqGood f ≡ true) (limit : length (rqForm f .pdu) 
   rq-kind : kindOf (associateBytes (rqPdu f)) ≡ ASSOCIATE-RQ
   unfolding validAs requestOk rqPdu contextsOk
   rq-kind =
-      kind-of-valid (associateBytes (rqPdu f)) ASSOCIATE-RQ (frame-whole (rqPdu f) rq-fits) (frame-kind (rqPdu f) rq-fits)
-      (both-of _ _ (frame-68 (rqPdu f) rq-fits)
+      kind-of-valid (associateBytes (rqPdu f)) ASSOCIATE-RQ (associate-whole (rqPdu f) rq-fits) (associate-kind (rqPdu f) rq-fits)
+      (both-of _ _ (associate-68 (rqPdu f) rq-fits)
       (both-of _ _ (ap titleOk called-at ∙ left-of _ _ rq-parts)
       (both-of _ _ (ap titleOk calling-at ∙ left-of _ _ rq-parts₂) (items-ok proposing (rqPdu f) rq-fits (contextsIn (f .sheet)) refl refl (proposal-contexts (f .sheet) rq-sheet) (left-of _ _ rq-parts₃)))))
 
@@ -188,8 +188,8 @@ module _ (f : AcFields) (g : acGood f ≡ true) (limit : length (acForm f .pdu) 
   ac-kind : kindOf (associateBytes (acPdu f)) ≡ ASSOCIATE-AC
   unfolding validAs acceptOk acPdu allAnsweredOk
   ac-kind =
-      kind-of-valid (associateBytes (acPdu f)) ASSOCIATE-AC (frame-whole (acPdu f) ac-fits) (frame-kind (acPdu f) ac-fits)
-      (both-of _ _ (frame-68 (acPdu f) ac-fits)
+      kind-of-valid (associateBytes (acPdu f)) ASSOCIATE-AC (associate-whole (acPdu f) ac-fits) (associate-kind (acPdu f) ac-fits)
+      (both-of _ _ (associate-68 (acPdu f) ac-fits)
       (both-of _ _ (ap odd (frame-version (acPdu f) ac-fits)) (items-ok answering (acPdu f) ac-fits (answersIn (f .sheet)) refl refl (answers-answered (f .sheet) ac-sheet) (left-of _ _ ac-parts₂))))
 
   answered-at : answered (associateBytes (acPdu f)) ≡ answersIn (f .sheet)

@@ -21,7 +21,7 @@ use Rattle.contents.proofs.GoodLaws.{four-20, filled-20, counts-20, one-filled,
 use Rattle.sheets.specs.Contexts.{Context, Answered, contextId, answeredId, contextOk, answeredOk, transferNameOk}
 use Rattle.reading.specs.Associate.{contextOf, answerOf}
 use Rattle.writing.specs.Wire.{contextBody, answerBody}
-use Rattle.round_trips.proofs.FrameTrip.{Apart}
+use Rattle.round_trips.proofs.PduTrip.{Apart}
 use Rattle.round_trips.proofs.Share.{three, first-share}
 
 -- ---- a context

@@ -1,5 +1,5 @@
 pub mod Share
-pub mod FrameTrip
+pub mod PduTrip
 pub mod ContextTrip
 pub mod AssociateTrip
 pub mod SmallTrip

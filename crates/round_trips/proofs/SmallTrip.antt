@@ -23,7 +23,7 @@ use Rattle.writing.specs.Ten.{tens, tenOf, rejectBytes, abortBytes}
 use Rattle.writing.specs.Wire.{pduBytes}
 use Rattle.writing.specs.Form.{rejectForm, mostOf, dataForm, releaseRqForm, releaseRpForm, abortForm}
 use Rattle.round_trips.specs.Trips.{RejectTrip, AbortTrip, pdvRead, DataTrip}
-use Rattle.round_trips.proofs.FrameTrip.{pdu-whole, pdu-long}
+use Rattle.round_trips.proofs.PduTrip.{pdu-whole, pdu-long}
 
 -- ---- RJ
 module _ (result source reason : ℕ) (g : rejectOk result source reason ≡ true) where

@@ -1,4 +1,4 @@
--- Bytes put where they have room.
+-- For the private functions of reading and writing_associate, and the proofs of writing: bytes put where they have room.
 use Prim.Native.Nat.{ℕ, _+_}
 use mathlib.Core.Path.{_≡_}
 use mathlib.Core.List.{List}

@@ -1,4 +1,4 @@
--- The items of a sheet's contexts, a record at a time. `answer`: the sheet is an answer, not a proposal.
+-- For the private functions: the items of a sheet's contexts, a record at a time. `answer`: the sheet is an answer, not a proposal.
 use Prim.Native.Nat.{ℕ, _+_, _≤_}
 use mathlib.Core.Bool.{Bool, cond}
 use mathlib.Core.List.{List, [], _∷_, _++_, map}

@@ -1,4 +1,4 @@
--- An RQ or AC as it is written: its fixed part, and its items. `answer`: it is an AC.
+-- For the private functions: an RQ or AC as it is written: its fixed part, and its items. `answer`: it is an AC.
 use Prim.Native.Nat.{ℕ, _+_, _%_, _≤_}
 use mathlib.Core.Path.{_≡_}
 use mathlib.Core.Bool.{Bool, false, cond}

@@ -1,6 +1,6 @@
 -- `entering` meets its contract.
 -- Assumes nothing.
-use Rattle.association.proofs.PerformingLaws.{deed-laws}
+use Rattle.association.proofs.PerformingLaws.{performing-laws}
 use Rattle.association.proofs.performing.entering.Statement.{statement}
 use Rattle.association.proofs.performing.entering.Tie as tie
 
@@ -8,4 +8,4 @@ pub entering-spec : {M : Type 1} → statement M
 entering-spec =
     tie.close
     (tie.spec
-    (λ c. search deed-laws) (λ c. search deed-laws))  -- returns, returns-2
+    (λ c. search performing-laws) (λ c. search performing-laws))  -- returns, returns-2

@@ -1,6 +1,6 @@
 -- `brings_pdu` meets its contract.
 -- Assumes nothing.
-use Rattle.receiving.proofs.ReceivedLaws.{deed-laws}
+use Rattle.receiving.proofs.ReceivedLaws.{received-laws}
 use Rattle.receiving.proofs.received.brings_pdu.Statement.{statement}
 use Rattle.receiving.proofs.received.brings_pdu.Tie as tie
 
@@ -8,4 +8,4 @@ pub brings-pdu-spec : {M : Type 1} → statement M
 brings-pdu-spec =
     tie.close
     (tie.spec
-    (λ c κs. search deed-laws) (λ c κs. search deed-laws) (λ c. search deed-laws))  -- accepts-at-requires, peer-at-requires, returns
+    (λ c κs. search received-laws) (λ c κs. search received-laws) (λ c. search received-laws))  -- accepts-at-requires, peer-at-requires, returns

@@ -1,4 +1,4 @@
--- The frame of an RQ and an AC, walked over: its parts stand where reading looks for them, and its items are good.
+-- An RQ or AC as it is written, walked over: its parts stand where reading looks for them, and its items are good.
 -- Assumes nothing.
 use Prim.Native.Nat.{ℕ, _+_, _≤_, _<_}
 use native.Mathlib.Omega.{arith}
@@ -92,9 +92,9 @@ pub record Fits (f : AssociatePdu) : Type 0 where
 
 -- how long it is
 module _ (f : AssociatePdu) (m : length (f .middle) ≡ 64) (u : f .user ≡ ourUser) where
-  pub frame-long : length (associateBytes f) ≡ 74 + (4 + length (f .application) + (length (itemsBytes (f .context) (f .bodies)) + 12))
+  pub associate-long : length (associateBytes f) ≡ 74 + (4 + length (f .application) + (length (itemsBytes (f .context) (f .bodies)) + 12))
   unfolding associateBytes pduBytes associateItems
-  frame-long =
+  associate-long =
       let e = ap (λ (x : List (List ℕ)). length (joined x)) u in
       let o = user-small in
       let l = length-append (f .middle) (associateItems f) in
@@ -103,34 +103,34 @@ module _ (f : AssociatePdu) (m : length (f .middle) ≡ 64) (u : f .user ≡ our
 
 module _ (f : AssociatePdu) (w : Fits f) where
   pub items-small : length (itemsBytes (f .context) (f .bodies)) < 65536
-  items-small = let a = frame-long f (w .middle) (w .user) in let c = w .limit in omega arith
+  items-small = let a = associate-long f (w .middle) (w .user) in let c = w .limit in omega arith
 
   name-small : length (f .application) < 65536
-  name-small = let a = frame-long f (w .middle) (w .user) in let c = w .limit in omega arith
+  name-small = let a = associate-long f (w .middle) (w .user) in let c = w .limit in omega arith
 
   last-small : length (joined (f .user)) < 65536
   last-small = let e = ap (λ (x : List (List ℕ)). length (joined x)) (w .user) in let o = user-small in omega arith
 
   -- where the parts stand
-  pub frame-kind : typeOf (associateBytes f) ≡ f .kind
+  pub associate-kind : typeOf (associateBytes f) ≡ f .kind
   unfolding associateBytes pduBytes
-  frame-kind = refl
+  associate-kind = refl
 
   pub frame-version : versionOf (associateBytes f) ≡ 1
   unfolding associateBytes pduBytes be16
   frame-version = refl
 
-  pub frame-whole : whole (associateBytes f) ≡ true
+  pub associate-whole : whole (associateBytes f) ≡ true
   unfolding associateBytes
-  frame-whole =
+  associate-whole =
       let body : List ℕ = 0 ∷ 1 ∷ 0 ∷ 0 ∷ (f .middle ++ associateItems f) in
       let l = pdu-long (f .kind) (0 ∷ 1 ∷ 0 ∷ 0 ∷ (f .middle ++ associateItems f)) in
       let c = w .limit in
       pdu-whole (f .kind) (0 ∷ 1 ∷ 0 ∷ 0 ∷ (f .middle ++ associateItems f)) (omega arith)
 
-  pub frame-68 : leb 68 (pduLength (associateBytes f)) ≡ true
+  pub associate-68 : leb 68 (pduLength (associateBytes f)) ≡ true
   unfolding associateBytes
-  frame-68 =
+  associate-68 =
       let n = pdu-number (f .kind) (0 ∷ 1 ∷ 0 ∷ 0 ∷ (f .middle ++ associateItems f)) in
       let a = w .middle in
       let l = length-append (f .middle) (associateItems f) in
@@ -171,10 +171,10 @@ module _ (f : AssociatePdu) (w : Fits f) where
       ap (λ (x : List ℕ). be32 (first (bodies 0x51 (walk x))) 0) u
 
   -- "one 10H, one or more contexts .. one 50H", no ID twice
-  pub frame-items-ok : nameOk (f .application) ≡ true → leb 1 (length (f .bodies)) ≡ true → all (contextGood (f .context)) (f .bodies) ≡ true → distinct (map bodyId (f .bodies)) ≡ true
+  pub associate-items-ok : nameOk (f .application) ≡ true → leb 1 (length (f .bodies)) ≡ true → all (contextGood (f .context)) (f .bodies) ≡ true → distinct (map bodyId (f .bodies)) ≡ true
       → itemsOk (f .context) (topItems (associateBytes f)) ≡ true
   unfolding itemsOk ids
-  frame-items-ok n p q d =
+  associate-items-ok n p q d =
       let z = ap (λ (u : List (List ℕ)). item 0x10 (f .application) (run (f .context) (f .bodies) (item 0x50 (joined u) done))) (w .user) in
       both-of _ _ (ap (topOk (f .context)) (walked ∙ z) ∙ top-written (f .context) (w .apart) (f .application) (f .bodies) n p q)
       (ap (λ (l : List (List ℕ)). distinct (map bodyId l)) at-bodies ∙ d)
