@@ -3,7 +3,7 @@ use crate::digits::bytes_at;
 use crate::digits::number_at;
 ghost use Prim.Native.Nat.{_<_};
 
-// What a word may be: a number of some width, the length of a buffer or of a sheet, a byte string, a sheet.
+// What a word may be, the numbers first: none; a mark, a byte, 32 bits, 64 bits, the length of a buffer, of a sheet; then a byte string, a sheet.
 pub(crate) const NONE: u8 = 0;
 
 pub(crate) const MARK: u8 = 1;
