@@ -1,14 +1,19 @@
--- The columns of the actions' table: the code's constants of 28 numbers, each its action's, by computation; and AE-6 and AR-8, which are decided beside them.
+-- The columns of the actions' table: the code's constants of 28 numbers, each its action's, by computation; AE-6 and AR-8, which are decided beside them; and what
+-- the actions show and send.
 -- Assumes nothing.
 use Prim.Native.Nat.{ℕ, zero, suc, _-_, _≤_, _<_}
 use mathlib.Core.Path.{_≡_, refl, sym, _∙_, ap}
-use mathlib.Core.Bool.{Bool, true, false, cond, not}
+use mathlib.Core.Bool.{Bool, true, false, cond, not, _||_}
 use mathlib.Core.List.{List, [], _∷_, map}
 use native.Mathlib.Omega.{arith}
-use lib.Dec.{eqb}
+use native.Mathlib.Decide.{decLt}
+use lib.Dec.{T, eqb, eqb→eq}
 use lib.ListN.{length, getD, drop, List·getD-eq-default}
 use lib.Seq.{getD-set-other}
 use borrow.Author.Needs.{needs}
+use borrow.Author.Tests.{ne-eqb}
+use Rattle.laws.specs.Lists.{among}
+use Rattle.laws.proofs.Below.{allBelow, below}
 use Rattle.laws.proofs.Tests.{follow}
 use Rattle.table.specs.ActionNames.{AE-6, AR-8}
 use Rattle.table.specs.Actions.{Does, Timer, actions, doesOf, nextOf, showsOf, artimOf, runsAfter, sendsNumber}
@@ -62,6 +67,18 @@ module _ (l : List ℕ) (a : ℕ) where
 
   pub at-place : (w : ℕ) → w ≡ a → 1 ≤ a → getD l (w - 1) 0 ≡ getD (0 ∷ l) a 0
   at-place w e h = let q : suc (w - 1) ≡ a = omega arith in ap (λ (k : ℕ). getD (0 ∷ l) k 0) q
+
+-- ---- a column that is 0 at all actions but those of a list
+module _ (l ks : List ℕ) where
+  abbrev blank : ℕ → Bool
+  blank a = among a ks || eqb (getD (0 ∷ l) a 0) 0
+
+  bare : T (allBelow 29 blank) → length l ≡ 28 → (a : ℕ) → among a ks ≡ false → 0 ≡ getD (0 ∷ l) a 0
+  bare t n a none = by (decLt a 29)
+    where
+      by : Dec (a < 29) → 0 ≡ getD (0 ∷ l) a 0
+      by (yes h) = let u : T (eqb (getD (0 ∷ l) a 0) 0) = rw none at (below 29 blank t a h) in sym (eqb→eq _ _ u)
+      by (no h) = at-past l a n (omega arith)
 
 -- ---- AE-6 and AR-8: elsewhere the two questions are not asked
 other-6 : (a : ℕ) (p : Bool) → (a ≡ AE-6 → ⊥) → doesOf a p false ≡ doesOf a false false
@@ -126,13 +143,19 @@ module _ (a : ℕ) (p : Bool) where
       by true = refl
       by false = refl
 
-  pub shows-other : (t : ℕ) → (a ≡ AE-6 → ⊥) → t ≡ getD (0 ∷ marks) a 0 → eqb t 1 ≡ showsOf a p
-  unfolding showsOf marks doesOf actions
-  shows-other t h e = rw (e ∙ elsewhere (λ (d : Does). mark (d .shows)) h) (by (doesOf a p false .shows))
+  pub shows-arm : (k : ℕ) → a ≡ k → true ≡ showsOf k p → true ≡ showsOf a p
+  shows-arm k e t = t ∙ ap (λ (i : ℕ). showsOf i p) (sym e)
+
+  pub shows-other : (a ≡ 3 → ⊥) → (a ≡ 4 → ⊥) → (a ≡ AE-6 → ⊥) → (a ≡ 10 → ⊥) → (a ≡ 16 → ⊥) → (a ≡ 23 → ⊥) → false ≡ showsOf a p
+  unfolding showsOf marks doesOf actions among
+  shows-other b c h d e f = by (doesOf a p false .shows) (none ∙ elsewhere (λ (d : Does). mark (d .shows)) h)
     where
-      by : (b : Bool) → eqb (mark b) 1 ≡ b
-      by true = refl
-      by false = refl
+      none : 0 ≡ getD (0 ∷ marks) a 0
+      none = bare marks (3 ∷ 4 ∷ 10 ∷ 16 ∷ 23 ∷ []) _ refl a (simp (ne-eqb a 3 b, ne-eqb a 4 c, ne-eqb a 10 d, ne-eqb a 16 e, ne-eqb a 23 f))
+
+      by : (s : Bool) → 0 ≡ mark s → false ≡ s
+      by true h = absurd (omega (arith, h))
+      by false h = refl
 
   pub sends-accepting : a ≡ AE-6 → p ≡ true → 0 ≡ sendsNumber (doesOf a p false .sends)
   unfolding doesOf actions
@@ -142,9 +165,17 @@ module _ (a : ℕ) (p : Bool) where
   unfolding doesOf actions
   sends-rejecting e t = rw (e, t)
 
-  pub sends-other : (r : ℕ) → (a ≡ AE-6 → ⊥) → r ≡ getD (0 ∷ sendings) a 0 → r ≡ sendsNumber (doesOf a p false .sends)
-  unfolding sendings doesOf actions
-  sends-other r h e = e ∙ elsewhere (λ (d : Does). sendsNumber (d .sends)) h
+  pub sends-arm : (k r : ℕ) → a ≡ k → r ≡ sendsNumber (doesOf k p false .sends) → r ≡ sendsNumber (doesOf a p false .sends)
+  sends-arm k r e t = t ∙ ap (λ (i : ℕ). sendsNumber (doesOf i p false .sends)) (sym e)
+
+  pub sends-other : (a ≡ AE-6 → ⊥) → (a ≡ 2 → ⊥) → (a ≡ 7 → ⊥) → (a ≡ 8 → ⊥) → (a ≡ 9 → ⊥) → (a ≡ 11 → ⊥) → (a ≡ 14 → ⊥) → (a ≡ 17 → ⊥)
+      → (a ≡ 19 → ⊥) → (a ≡ 21 → ⊥) → (a ≡ 27 → ⊥) → (a ≡ 28 → ⊥) → 0 ≡ sendsNumber (doesOf a p false .sends)
+  unfolding sendings doesOf actions among
+  sends-other h b c d e f g i j k l m = none ∙ elsewhere (λ (d : Does). sendsNumber (d .sends)) h
+    where
+      none : 0 ≡ getD (0 ∷ sendings) a 0
+      none = bare sendings (2 ∷ 6 ∷ 7 ∷ 8 ∷ 9 ∷ 11 ∷ 14 ∷ 17 ∷ 19 ∷ 21 ∷ 27 ∷ 28 ∷ []) _ refl a
+          (simp (ne-eqb a 2 b, ne-eqb a 6 h, ne-eqb a 7 c, ne-eqb a 8 d, ne-eqb a 9 e, ne-eqb a 11 f, ne-eqb a 14 g, ne-eqb a 17 i, ne-eqb a 19 j, ne-eqb a 21 k, ne-eqb a 27 l, ne-eqb a 28 m))
 
 pub ruleset at-laws = (needs, at-none, at-past, at-place)
 
@@ -152,6 +183,6 @@ pub ruleset next-laws = (needs, accepting, rejecting, as-requestor, as-acceptor,
 
 pub ruleset artim-laws = (follow, artim-6, artim-other)
 
-pub ruleset shows-laws = (needs, shows-6, shows-other)
+pub ruleset shows-laws = (shows-6, shows-arm, shows-other)
 
-pub ruleset sends-laws = (needs, sends-accepting, sends-rejecting, sends-other)
+pub ruleset sends-laws = (sends-accepting, sends-rejecting, sends-arm, sends-other)

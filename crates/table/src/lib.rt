@@ -106,20 +106,6 @@ const TIMERS: [u8; 28] = *b"\
     \x00\x00\x00\x01\x02\x00\x00\x00\x00\x00\
     \x01\x02\x00\x00\x02\x00\x00\x01";
 
-// For the same actions: 1 where the PDU received is shown.
-const SHOWN: [u8; 28] = *b"\
-    \x00\x00\x01\x01\x00\x00\x00\x00\
-    \x00\x01\
-    \x00\x00\x00\x00\x00\x01\x00\x00\x00\x00\
-    \x00\x00\x01\x00\x00\x00\x00\x00";
-
-// For the same actions: the number of what is sent.
-const SENDS: [u8; 28] = *b"\
-    \x00\x01\x00\x00\x00\x02\x01\x01\
-    \x01\x00\
-    \x03\x00\x00\x04\x00\x00\x01\x00\x04\x00\
-    \x05\x00\x00\x00\x00\x00\x06\x06";
-
 fn wide(x: u8) -> usize
     ensures { λ r. ⌜ r ≡ x ⌝ }
 {
@@ -208,10 +194,15 @@ pub fn artim_after(action: u8, accepts: bool, before: bool) -> bool
 pub fn shows(action: u8, accepts: bool) -> bool
     ensures { λ r. ⌜ r ≡ showsOf action accepts ⌝ }
 {
-    if action == AE_6 {
-        return accepts;
+    match action {
+        AE_3 => true,
+        AE_4 => true,
+        AE_6 => accepts,
+        DT_2 => true,
+        AR_6 => true,
+        AA_3 => true,
+        _ => false,
     }
-    at(SHOWN, action) == 1
 }
 
 // What an action sends.
@@ -224,7 +215,20 @@ pub fn sends(action: u8, accepts: bool) -> u8
         }
         return SENDS_REJECT_VERSION;
     }
-    at(SENDS, action)
+    match action {
+        AE_2 => SENDS_CONTENTS,
+        AE_7 => SENDS_CONTENTS,
+        AE_8 => SENDS_CONTENTS,
+        DT_1 => SENDS_CONTENTS,
+        AR_1 => SENDS_RELEASE_RQ,
+        AR_4 => SENDS_RELEASE_RP,
+        AR_7 => SENDS_CONTENTS,
+        AR_9 => SENDS_RELEASE_RP,
+        AA_1 => SENDS_ABORT_USER,
+        AA_7 => SENDS_ABORT_PROVIDER,
+        AA_8 => SENDS_ABORT_PROVIDER,
+        _ => SENDS_NOTHING,
+    }
 }
 
 // Whether bytes bring the event: the rows of PDUs.
