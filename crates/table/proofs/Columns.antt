@@ -1,5 +1,5 @@
--- The columns of the actions' table: the code's constants of 28 numbers, each its action's, by computation; AE-6 and AR-8, which are decided beside them; and what
--- the actions show and send.
+-- The columns of the actions' table: the code's constant of 28 next states, each its action's, by computation; AE-6 and AR-8, which are decided beside it; and what
+-- the actions do to the timer, show and send.
 -- Assumes nothing.
 use Prim.Native.Nat.{ℕ, zero, suc, _-_, _≤_, _<_}
 use mathlib.Core.Path.{_≡_, refl, sym, _∙_, ap}
@@ -14,7 +14,6 @@ use borrow.Author.Needs.{needs}
 use borrow.Author.Tests.{ne-eqb}
 use Rattle.laws.specs.Lists.{among}
 use Rattle.laws.proofs.Below.{allBelow, below}
-use Rattle.laws.proofs.Tests.{follow}
 use Rattle.table.specs.ActionNames.{AE-6, AR-8}
 use Rattle.table.specs.Actions.{Does, Timer, actions, doesOf, nextOf, showsOf, artimOf, runsAfter, sendsNumber}
 use Rattle.table.specs.Actions.{Timer.starts, Timer.stops, Timer.stays}
@@ -126,14 +125,22 @@ module _ (a : ℕ) (p : Bool) where
       by true = refl
       by false = refl
 
-  pub artim-other : (z b : Bool) (t : ℕ) → (a ≡ AE-6 → ⊥) → t ≡ getD (0 ∷ timers) a 0 → z ≡ cond (eqb t 1) true (cond (eqb t 2) false b) → z ≡ artimOf a p b
-  unfolding artimOf timers doesOf actions
-  artim-other z b t h e q = q ∙ rw (e ∙ elsewhere (λ (d : Does). timerNumber (d .artim)) h) (by (doesOf a p false .artim))
+  pub artim-arm : (k : ℕ) (z b : Bool) → a ≡ k → z ≡ artimOf k p b → z ≡ artimOf a p b
+  artim-arm k z b e t = t ∙ ap (λ (i : ℕ). artimOf i p b) (sym e)
+
+  pub artim-other : (z : Bool) → (a ≡ AE-6 → ⊥) → (a ≡ 5 → ⊥) → (a ≡ 8 → ⊥) → (a ≡ 14 → ⊥) → (a ≡ 15 → ⊥) → (a ≡ 21 → ⊥) → (a ≡ 22 → ⊥) → (a ≡ 25 → ⊥) → (a ≡ 28 → ⊥)
+      → z ≡ artimOf a p z
+  unfolding artimOf timers doesOf actions among
+  artim-other z h b c d e f g i j = by (doesOf a p false .artim) (none ∙ elsewhere (λ (d : Does). timerNumber (d .artim)) h)
     where
-      by : (x : Timer) → cond (eqb (timerNumber x) 1) true (cond (eqb (timerNumber x) 2) false b) ≡ runsAfter x b
-      by starts = refl
-      by stops = refl
-      by stays = refl
+      none : 0 ≡ getD (0 ∷ timers) a 0
+      none = bare timers (5 ∷ 6 ∷ 8 ∷ 14 ∷ 15 ∷ 21 ∷ 22 ∷ 25 ∷ 28 ∷ []) _ refl a
+          (simp (ne-eqb a 5 b, ne-eqb a 6 h, ne-eqb a 8 c, ne-eqb a 14 d, ne-eqb a 15 e, ne-eqb a 21 f, ne-eqb a 22 g, ne-eqb a 25 i, ne-eqb a 28 j))
+
+      by : (x : Timer) → 0 ≡ timerNumber x → z ≡ runsAfter x z
+      by starts n = absurd (omega (arith, n))
+      by stops n = absurd (omega (arith, n))
+      by stays n = refl
 
   pub shows-6 : a ≡ AE-6 → p ≡ showsOf a p
   unfolding showsOf doesOf actions
@@ -181,7 +188,7 @@ pub ruleset at-laws = (needs, at-none, at-past, at-place)
 
 pub ruleset next-laws = (needs, accepting, rejecting, as-requestor, as-acceptor, next-other)
 
-pub ruleset artim-laws = (follow, artim-6, artim-other)
+pub ruleset artim-laws = (artim-6, artim-arm, artim-other)
 
 pub ruleset shows-laws = (shows-6, shows-arm, shows-other)
 

@@ -95,17 +95,6 @@ const NEXTS: [u8; 28] = *b"\
     \x07\x08\x01\x0d\x01\x07\x08\x0a\x0b\x0c\
     \x0d\x01\x01\x01\x01\x0d\x0d\x0d";
 
-const STARTS: u8 = 1;
-
-const STOPS: u8 = 2;
-
-// For the same actions: whether the ARTIM timer is started or stopped.
-const TIMERS: [u8; 28] = *b"\
-    \x00\x00\x00\x00\x01\x01\x00\x01\
-    \x00\x00\
-    \x00\x00\x00\x01\x02\x00\x00\x00\x00\x00\
-    \x01\x02\x00\x00\x02\x00\x00\x01";
-
 fn wide(x: u8) -> usize
     ensures { λ r. ⌜ r ≡ x ⌝ }
 {
@@ -180,14 +169,17 @@ pub fn artim_after(action: u8, accepts: bool, before: bool) -> bool
     if action == AE_6 {
         return !accepts;
     }
-    let timer = at(TIMERS, action);
-    if timer == STARTS {
-        return true;
+    match action {
+        AE_5 => true,
+        AE_8 => true,
+        AR_4 => true,
+        AR_5 => false,
+        AA_1 => true,
+        AA_2 => false,
+        AA_5 => false,
+        AA_8 => true,
+        _ => before,
     }
-    if timer == STOPS {
-        return false;
-    }
-    before
 }
 
 // Whether an action shows the PDU received.
