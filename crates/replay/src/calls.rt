@@ -1,37 +1,50 @@
 // The table of calls: the words of each, and the function that answers it.
+use crate::buffers::digest;
 use crate::buffers::front;
-use crate::machine::machine_line;
+use crate::lines::LINE;
+use crate::lines::Line;
+use crate::machine::machine_call;
+use crate::machine::tell;
 use crate::print::no_call;
+use crate::print::yes_or_no;
 use crate::readers;
 use crate::record::Kept;
+use crate::record::said;
 use crate::words::BYTE;
 use crate::words::BYTES;
+use crate::words::FIRST;
+use crate::words::Form;
+use crate::words::GATHERHEX;
+use crate::words::GATHERLEN;
+use crate::words::LENGTH;
 use crate::words::NONE;
 use crate::words::NUMBER;
-use crate::words::ROOM;
+use crate::words::SECOND;
 use crate::words::SHEET;
-use crate::words::SHEET_ROOM;
+use crate::words::SHEET_LENGTH;
 use crate::words::Words;
-use crate::words::words_at;
+use crate::words::bytes;
+use crate::words::number;
+use crate::words::words_by;
 use crate::writers;
 
 // The words behind a call's letter, or behind the RECORD of a machine call; the last is the length of the buffer that the call lends.
-pub(crate) fn kinds_of(call: u8) -> [u8; 5] {
+fn kinds_of(call: u8) -> [u8; 5] {
     match call {
         b'r' | b'd' | b'K' | b'J' | b'B' | b'N' | b'V' => [BYTES, NONE, NONE, NONE, NONE],
         b'E' | b'T' => [BYTES, BYTES, NONE, NONE, NONE],
         b'D' => [BYTES, NUMBER, NONE, NONE, NONE],
-        b'Q' | b'A' => [BYTES, NONE, NONE, NONE, SHEET_ROOM],
+        b'Q' | b'A' => [BYTES, NONE, NONE, NONE, SHEET_LENGTH],
         b'e' => [BYTE, NONE, NONE, NONE, NONE],
         b'j' => [BYTE, BYTE, BYTE, NONE, NONE],
         b'c' => [BYTES, BYTES, BYTES, SHEET, NONE],
         b'a' => [BYTES, BYTES, SHEET, NONE, NONE],
-        b'1' => [BYTES, BYTES, BYTES, SHEET, ROOM],
-        b'2' => [BYTES, BYTES, SHEET, NONE, ROOM],
-        b'3' => [BYTE, BYTE, BYTE, NONE, ROOM],
-        b'4' => [BYTES, NONE, NONE, NONE, ROOM],
-        b'5' | b'6' => [NONE, NONE, NONE, NONE, ROOM],
-        b'7' => [BYTE, BYTE, NONE, NONE, ROOM],
+        b'1' => [BYTES, BYTES, BYTES, SHEET, LENGTH],
+        b'2' => [BYTES, BYTES, SHEET, NONE, LENGTH],
+        b'3' => [BYTE, BYTE, BYTE, NONE, LENGTH],
+        b'4' => [BYTES, NONE, NONE, NONE, LENGTH],
+        b'5' | b'6' => [NONE, NONE, NONE, NONE, LENGTH],
+        b'7' => [BYTE, BYTE, NONE, NONE, LENGTH],
         _ => [NONE, NONE, NONE, NONE, NONE],
     }
 }
@@ -53,49 +66,88 @@ fn plain_call(call: u8, line: &[u8], w: &Words) {
         b'B' => readers::abort(line, w),
         b'D' => readers::data(line, w),
         b'T' => readers::title_known(line, w),
-        b'N' => readers::name_ok(line, w),
-        b'V' => readers::title_ok(line, w),
-        b'E' => readers::titles_equal(line, w),
+        b'N' => yes_or_no(names::name_ok(bytes(line, w, FIRST))),
+        b'V' => yes_or_no(titles::title_ok(bytes(line, w, FIRST))),
+        b'E' => yes_or_no(titles::titles_equal(bytes(line, w, FIRST), bytes(line, w, SECOND))),
         b'1'..=b'7' => writers::write(call, line, w),
         _ => no_call(),
     }
 }
 
-fn plain_line(call: u8, line: &mut [u8]) {
-    let mut w = [0u64; 10];
-    let end = words_at(line, 1, kinds_of(call), &mut w);
-    if end == line.len() {
-        plain_call(call, line, &w);
+// Whether the RECORD of a line is `=`.
+fn is_same(line: &Line) -> bool {
+    if line[1] == b' ' {
+        line[2] == b'='
     } else {
-        no_call();
+        false
     }
+}
+
+// How a line is read: a RECORD that is `=` is passed.
+fn form_of(line: &Line, call: u8) -> Form {
+    if !is_machine_call(call) {
+        Form {
+            at: 1,
+            has_record: false,
+        }
+    } else if is_same(line) {
+        Form {
+            at: 3,
+            has_record: false,
+        }
+    } else {
+        Form {
+            at: 1,
+            has_record: true,
+        }
+    }
+}
+
+// No letter of a call.
+const NO_CALL: u8 = 0;
+
+// A call, unless its RECORD gives the gather buffer more bytes than it has.
+fn fitting(call: u8, w: &Words) -> u8 {
+    if number(w, GATHERLEN) < number(w, GATHERHEX) {
+        NO_CALL
+    } else {
+        call
+    }
+}
+
+// Reads a line of n bytes: its call, NO_CALL for none, and its words.
+pub(crate) fn called(line: &mut Line, n: usize, w: &mut Words) -> u8 {
+    if LINE < n {
+        return NO_CALL;
+    }
+    line[n] = b'\n';
+    let call = line[0];
+    let f = form_of(line, call);
+    let end = words_by(line, f, kinds_of(call), w);
+    if end == n { fitting(call, w) } else { NO_CALL }
 }
 
 // Prints the answer to a line, and says what is then kept: what a machine call leaves, and as before for any other line.
-fn line_answered(line: &mut [u8], kept: Kept, gather: &mut [u8], out: &mut [u8]) -> Kept {
-    if line.len() == 0 {
-        no_call();
-        return kept;
-    }
-    let call = line[0];
-    if is_machine_call(call) {
-        return machine_line(call, line, kept, gather, out);
-    }
-    plain_line(call, line);
-    kept
-}
-
-// The same of the first n bytes of the room for a line; a line that is longer is no call.
 pub(crate) fn answered(
-    line: &mut [u8],
-    n: usize,
+    call: u8,
+    line: &Line,
+    w: &Words,
     kept: Kept,
     gather: &mut [u8],
     out: &mut [u8],
 ) -> Kept {
-    if line.len() < n {
-        no_call();
+    if !is_machine_call(call) {
+        plain_call(call, line, w);
         return kept;
     }
-    line_answered(front(line, n), kept, gather, out)
+    let k = said(w, kept);
+    let a = k.assoc;
+    let r = machine_call(call, a, line, w, front(gather, k.gather), front(out, k.out));
+    tell(r, digest(gather, k.gather), digest(out, k.out));
+    let assoc = r.assoc;
+    Kept {
+        assoc,
+        gather: k.gather,
+        out: k.out,
+    }
 }

@@ -1,8 +1,9 @@
 // Words as digits: numbers are decimal, byte strings lower-case hex, `-` for the empty one.
+use crate::lines::LINE;
+use crate::lines::Line;
 use crate::words::BROKEN;
 use crate::words::Word;
 ghost use Prim.Native.Nat.{_≤_, _<_};
-ghost use lib.ListN.{length};
 
 // The value of a hex digit, or 16.
 fn digit(b: u8) -> u64
@@ -19,7 +20,7 @@ fn digit(b: u8) -> u64
     16
 }
 
-// The word from start to end; a word has one digit at the least.
+// The word from start to end; it has one digit at the least.
 fn word(number: u64, start: usize, end: usize) -> Word {
     Word {
         number,
@@ -29,10 +30,10 @@ fn word(number: u64, start: usize, end: usize) -> Word {
 }
 
 // The number that starts at a place, up to what would make it more than `most`.
-pub(crate) fn number_at(line: &[u8], start: usize, most: u64) -> Word {
+pub(crate) fn number_at(line: &Line, start: usize, most: u64) -> Word {
     let mut number = 0;
     let mut end = start;
-    while end < line.len() {
+    while end < LINE {
         let d = digit(line[end]);
         if 9 < d {
             break;
@@ -50,12 +51,9 @@ pub(crate) fn number_at(line: &[u8], start: usize, most: u64) -> Word {
 }
 
 // The byte that two hex digits at a place say, or 256.
-fn pair(line: &[u8], i: usize) -> u64
-    requires { ⌜ i < length (now line) ⌝ }
+fn pair(line: &Line, i: usize) -> u64
+    requires { ⌜ i < 270000 ⌝ }
 {
-    if line.len() - i < 2 {
-        return 256;
-    }
     let high = digit(line[i]);
     let low = digit(line[i + 1]);
     if 15 < high {
@@ -68,32 +66,32 @@ fn pair(line: &[u8], i: usize) -> u64
 }
 
 // Where a `-` at a place ends; the place itself without one.
-fn past_dash(line: &[u8], at: usize) -> usize {
-    if line.len() <= at {
+fn past_dash(line: &Line, at: usize) -> usize {
+    if LINE <= at {
         return at;
     }
     if line[at] == b'-' { at + 1 } else { at }
 }
 
 // The byte string that starts at a place, of up to `most` bytes, which then stand there.
-pub(crate) fn bytes_at(line: &mut [u8], start: usize, most: usize) -> Word {
+pub(crate) fn bytes_at(line: &mut Line, start: usize, most: u64) -> Word {
     let dash = past_dash(line, start);
     if start < dash {
         return word(0, start, dash);
     }
-    let mut len = 0;
+    let mut n = 0;
     let mut end = start;
-    while end < line.len() {
+    while end < LINE {
         let b = pair(line, end);
         if 255 < b {
             break;
         }
-        if most <= len {
+        if most <= n {
             break;
         }
-        line[start + len] = b as u8;
-        len += 1;
+        line[start + n as usize] = b as u8;
+        n += 1;
         end += 2;
     }
-    word(len as u64, start, end)
+    word(n, start, end)
 }

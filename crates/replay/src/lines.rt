@@ -1,18 +1,19 @@
 // Lines of standard input, which is read in large pieces.
 use libc::STDIN_FILENO;
 
-// The longest line that is a call.
-const LINE: usize = 270000;
+// The longest line that is a call, and the room for one: two bytes stand behind it.
+pub(crate) const LINE: usize = 270000;
+
+pub(crate) type Line = [u8; 270002];
 
 const TOO_LONG: usize = usize::MAX;
 
+pub(crate) fn no_line() -> Line {
+    [0; 270002]
+}
+
 // How many bytes are read at a time, by io::large_buffer.
 const READ: usize = 65536;
-
-// Room for a line.
-pub(crate) fn room() -> [u8; LINE] {
-    [0; LINE]
-}
 
 // How far a line is taken: its length so far, TOO_LONG for one that is longer than LINE; what is left of the bytes read, from `at` to `end`.
 // At the end of the input `end` is 0.
@@ -28,8 +29,8 @@ pub(crate) fn is_end(t: Taken) -> bool {
 }
 
 // Puts a byte behind the n of a line, and answers how many it then has.
-fn push(line: &mut [u8], n: usize, b: u8) -> usize {
-    if n < line.len() {
+fn push(line: &mut Line, n: usize, b: u8) -> usize {
+    if n < LINE {
         line[n] = b;
         n + 1
     } else {
@@ -52,7 +53,7 @@ fn filled(read: &mut [u8; READ], t: Taken) -> Taken {
 }
 
 // The next line, without its newline. At the end of the input it is what is left, which may be nothing.
-pub(crate) fn next_line(line: &mut [u8], read: &mut [u8; READ], last: Taken) -> Taken {
+pub(crate) fn next_line(line: &mut Line, read: &mut [u8; READ], last: Taken) -> Taken {
     let mut t = Taken {
         len: 0,
         at: last.at,

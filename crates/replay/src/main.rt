@@ -14,15 +14,17 @@ use buffers::IN_GATHER;
 use buffers::IN_OUTPUT;
 use buffers::buffer;
 use calls::answered;
+use calls::called;
 use lines::Taken;
 use lines::is_end;
 use lines::next_line;
 
 fn main() {
     let mut read = io::large_buffer();
-    let mut line = lines::room();
+    let mut line = lines::no_line();
     let mut gather = buffer(IN_GATHER);
     let mut out = buffer(IN_OUTPUT);
+    let mut words = [0u64; 28];
     let mut kept = record::first();
     let mut taken = Taken {
         len: 0,
@@ -35,7 +37,8 @@ fn main() {
         if is_end(t) {
             break;
         }
-        let k = answered(&mut line, t.len, kept, &mut gather, &mut out);
+        let call = called(&mut line, t.len, &mut words);
+        let k = answered(call, &line, &words, kept, &mut gather, &mut out);
         kept = k;
         taken = t;
         turns -= 1;

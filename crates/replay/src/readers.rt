@@ -6,8 +6,9 @@ use crate::buffers::front;
 use crate::print::mark;
 use crate::print::print;
 use crate::print::print_with;
-use crate::print::yes_or_no;
+use crate::words::FIRST;
 use crate::words::LENT;
+use crate::words::SECOND;
 use crate::words::Words;
 use crate::words::bytes;
 use crate::words::number;
@@ -16,7 +17,7 @@ use titles::Known;
 
 // K PDU
 pub(crate) fn kind(line: &[u8], w: &Words) {
-    let pdu = bytes(line, w, 0);
+    let pdu = bytes(line, w, FIRST);
     print(
         &[
             judging::kind_of(pdu) as u64,
@@ -38,7 +39,7 @@ fn fields(call: u8, pdu: &[u8], sheet: &mut [u8]) -> Associate {
 pub(crate) fn associate(call: u8, line: &[u8], w: &Words) {
     let n = number(w, LENT) as usize;
     let mut sheet = [IN_SHEET; SHEET];
-    let f = fields(call, bytes(line, w, 0), front(&mut sheet, n));
+    let f = fields(call, bytes(line, w, FIRST), front(&mut sheet, n));
     print(
         &[
             f.refusal as u64,
@@ -54,7 +55,7 @@ pub(crate) fn associate(call: u8, line: &[u8], w: &Words) {
 
 // J PDU
 pub(crate) fn reject(line: &[u8], w: &Words) {
-    let f = reading::read_reject(bytes(line, w, 0));
+    let f = reading::read_reject(bytes(line, w, FIRST));
     print(
         &[
             f.refusal as u64,
@@ -67,14 +68,14 @@ pub(crate) fn reject(line: &[u8], w: &Words) {
 
 // B PDU
 pub(crate) fn abort(line: &[u8], w: &Words) {
-    let f = reading::read_abort(bytes(line, w, 0));
+    let f = reading::read_abort(bytes(line, w, FIRST));
     print(&[f.refusal as u64, f.source as u64, f.reason as u64]);
 }
 
 // D PDU NUMBER
 pub(crate) fn data(line: &[u8], w: &Words) {
-    let pdu = bytes(line, w, 0);
-    let number = number(w, 1) as usize;
+    let pdu = bytes(line, w, FIRST);
+    let number = number(w, SECOND) as usize;
     let f = reading::read_data(pdu, number);
     let numbers = [
         f.refusal as u64,
@@ -92,25 +93,10 @@ fn two(refusal: u8, known: u64) {
 
 // T OWN SOUGHT
 pub(crate) fn title_known(line: &[u8], w: &Words) {
-    let known = titles::title_known(bytes(line, w, 0), bytes(line, w, 1));
+    let known = titles::title_known(bytes(line, w, FIRST), bytes(line, w, SECOND));
     match known {
         Known::Yes => two(numbers::NOT_REFUSED, 1),
         Known::No => two(numbers::NOT_REFUSED, 0),
         Known::Refused => two(numbers::BAD_CONTENTS, 0),
     }
-}
-
-// N NAME
-pub(crate) fn name_ok(line: &[u8], w: &Words) {
-    yes_or_no(names::name_ok(bytes(line, w, 0)));
-}
-
-// V TITLE
-pub(crate) fn title_ok(line: &[u8], w: &Words) {
-    yes_or_no(titles::title_ok(bytes(line, w, 0)));
-}
-
-// E TITLE TITLE
-pub(crate) fn titles_equal(line: &[u8], w: &Words) {
-    yes_or_no(titles::titles_equal(bytes(line, w, 0), bytes(line, w, 1)));
 }

@@ -1,6 +1,7 @@
-// The words of a line behind its letter, each read by its kind.
+// The words of a line, each read by its kind.
 use crate::digits::bytes_at;
 use crate::digits::number_at;
+use crate::lines::Line;
 ghost use Prim.Native.Nat.{_<_};
 
 // What a word may be, the numbers first: none; a mark, a byte, 32 bits, 64 bits, the length of a buffer, of a sheet; then a byte string, a sheet.
@@ -14,9 +15,9 @@ pub(crate) const LONG: u8 = 3;
 
 pub(crate) const NUMBER: u8 = 4;
 
-pub(crate) const ROOM: u8 = 5;
+pub(crate) const LENGTH: u8 = 5;
 
-pub(crate) const SHEET_ROOM: u8 = 6;
+pub(crate) const SHEET_LENGTH: u8 = 6;
 
 pub(crate) const BYTES: u8 = 7;
 
@@ -28,93 +29,144 @@ fn most(kind: u8) -> u64 {
         MARK => 1,
         BYTE => 255,
         LONG => 4294967295,
-        ROOM => 17000,
-        SHEET_ROOM => 66000,
+        LENGTH => 17000,
+        SHEET_LENGTH => 66000,
         BYTES => 17000,
         SHEET => 66000,
         _ => u64::MAX,
     }
 }
 
-// A word: its number, or how many bytes it has and where in the line they start. It ends at `next`, or at BROKEN where it is not of its kind.
+// The places of a call's words: those of a RECORD, those of the call itself, and the length of the buffer that the call lends.
+pub(crate) const STATE: usize = 0;
+
+pub(crate) const GATHERED: usize = 1;
+
+pub(crate) const DEAF: usize = 2;
+
+pub(crate) const ARTIM: usize = 3;
+
+pub(crate) const REQUESTOR: usize = 4;
+
+pub(crate) const PEERMAX: usize = 5;
+
+pub(crate) const GATHERLEN: usize = 6;
+
+pub(crate) const GATHERHEX: usize = 7;
+
+pub(crate) const OUTLEN: usize = 8;
+
+pub(crate) const FIRST: usize = 9;
+
+pub(crate) const SECOND: usize = 10;
+
+pub(crate) const THIRD: usize = 11;
+
+pub(crate) const FOURTH: usize = 12;
+
+pub(crate) const LENT: usize = 13;
+
+pub(crate) const PLACES: usize = 14;
+
+// By place: the number, or how many bytes; then where in the line the bytes start. 0 where there is no word.
+pub(crate) type Words = [u64; 28];
+
+// One word, and where it ends: BROKEN where it is not of its kind.
 pub(crate) struct Word {
     pub(crate) number: u64,
     pub(crate) start: usize,
     pub(crate) next: usize,
 }
 
-// The words of a call: up to four, and the length of the buffer that it lends. The five numbers, or how many bytes each has, then where the bytes of each start.
-pub(crate) type Words = [u64; 10];
-
-// Which word is that length.
-pub(crate) const LENT: usize = 4;
-
-// Where no word ends.
 pub(crate) const BROKEN: usize = usize::MAX;
 
-// No word, at a place.
-pub(crate) fn nothing(next: usize) -> Word {
-    Word {
-        number: 0,
-        start: 0,
-        next,
-    }
+// Where a line's words begin, and whether those of a RECORD are among them.
+pub(crate) struct Form {
+    pub(crate) at: usize,
+    pub(crate) has_record: bool,
 }
 
 // Where the word behind the space at a place starts; BROKEN without one.
-fn start_of(line: &[u8], at: usize) -> usize {
-    if line.len() <= at {
+fn start_of(line: &Line, at: usize) -> usize {
+    if 270000 < at {
         return BROKEN;
     }
     if line[at] == b' ' { at + 1 } else { BROKEN }
 }
 
-fn word_at(line: &mut [u8], at: usize, kind: u8) -> Word {
+fn word_at(line: &mut Line, at: usize, kind: u8) -> Word {
     let start = start_of(line, at);
     if kind == NONE {
-        nothing(at)
+        Word {
+            number: 0,
+            start: 0,
+            next: at,
+        }
     } else if kind < BYTES {
         number_at(line, start, most(kind))
     } else {
-        bytes_at(line, start, most(kind) as usize)
+        bytes_at(line, start, most(kind))
     }
 }
 
-// Reads the words from a place on, and answers where they end; BROKEN where one is not of its kind.
-pub(crate) fn words_at(line: &mut [u8], at: usize, kinds: [u8; 5], words: &mut Words) -> usize {
-    let mut next = at;
+// The kinds of a RECORD in words.
+const RECORD: [u8; 9] = [BYTE, NUMBER, MARK, MARK, MARK, LONG, LENGTH, BYTES, LENGTH];
+
+// The kind of the word at a place, by those of the call's own words.
+fn kind_at(k: usize, has_record: bool, own: [u8; 5]) -> u8
+    requires { ⌜ k < 14 ⌝ }
+{
+    if FIRST <= k {
+        own[k - FIRST]
+    } else if has_record {
+        RECORD[k]
+    } else {
+        NONE
+    }
+}
+
+// Reads the words of a line as its form says, and answers where they end; BROKEN where one is not of its kind.
+pub(crate) fn words_by(line: &mut Line, f: Form, own: [u8; 5], words: &mut Words) -> usize {
+    let mut next = f.at;
     let mut k = 0;
-    while k < 5 {
-        let w = word_at(line, next, kinds[k]);
+    while k < PLACES {
+        let w = word_at(line, next, kind_at(k, f.has_record, own));
         words[k] = w.number;
-        words[5 + k] = w.start as u64;
+        words[PLACES + k] = w.start as u64;
         next = w.next;
         k += 1;
     }
     next
 }
 
-// The number that word k says.
+// Whether there is a word at a place.
+pub(crate) fn has(words: &Words, k: usize) -> bool
+    requires { ⌜ k < 14 ⌝ }
+{
+    words[PLACES + k] != 0
+}
+
+// The number at a place.
 pub(crate) fn number(words: &Words, k: usize) -> u64
-    requires { ⌜ k < 5 ⌝ }
+    requires { ⌜ k < 14 ⌝ }
 {
     words[k]
 }
 
-// The byte that word k says.
+// The byte at a place.
 pub(crate) fn byte(words: &Words, k: usize) -> u8
-    requires { ⌜ k < 5 ⌝ }
+    requires { ⌜ k < 14 ⌝ }
 {
     let n = words[k];
     if n < 256 { n as u8 } else { 0 }
 }
 
-// The bytes that word k says.
+// The byte string at a place.
 pub(crate) fn bytes<'a>(line: &'a [u8], words: &Words, k: usize) -> &'a [u8]
-    requires { ⌜ k < 5 ⌝ }
+    requires { ⌜ k < 14 ⌝ }
 {
     let len = words[k] as usize;
-    let start = words[5 + k] as usize;
+    let start = words[PLACES + k] as usize;
     if line.len() < start {
         return &line[..0];
     }

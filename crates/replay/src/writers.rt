@@ -4,7 +4,11 @@ use crate::buffers::buffer;
 use crate::buffers::digest;
 use crate::buffers::front;
 use crate::print::print;
+use crate::words::FIRST;
+use crate::words::FOURTH;
 use crate::words::LENT;
+use crate::words::SECOND;
+use crate::words::THIRD;
 use crate::words::Words;
 use crate::words::byte;
 use crate::words::bytes;
@@ -17,23 +21,23 @@ const NO_LIMIT: u32 = 0;
 fn sent(call: u8, line: &[u8], w: &Words, out: &mut [u8]) -> Sent {
     match call {
         b'1' => writing_associate::write_request(
-            bytes(line, w, 0),
-            bytes(line, w, 1),
-            bytes(line, w, 2),
-            bytes(line, w, 3),
+            bytes(line, w, FIRST),
+            bytes(line, w, SECOND),
+            bytes(line, w, THIRD),
+            bytes(line, w, FOURTH),
             out,
         ),
         b'2' => writing_associate::write_accept(
-            bytes(line, w, 0),
-            bytes(line, w, 1),
-            bytes(line, w, 2),
+            bytes(line, w, FIRST),
+            bytes(line, w, SECOND),
+            bytes(line, w, THIRD),
             out,
         ),
-        b'3' => writing::write_reject(byte(w, 0), byte(w, 1), byte(w, 2), out),
-        b'4' => writing::write_data(bytes(line, w, 0), NO_LIMIT, out),
+        b'3' => writing::write_reject(byte(w, FIRST), byte(w, SECOND), byte(w, THIRD), out),
+        b'4' => writing::write_data(bytes(line, w, FIRST), NO_LIMIT, out),
         b'5' => writing::write_release_request(out),
         b'6' => writing::write_release_response(out),
-        _ => writing::write_abort(byte(w, 0), byte(w, 1), out),
+        _ => writing::write_abort(byte(w, FIRST), byte(w, SECOND), out),
     }
 }
 

@@ -7,10 +7,10 @@ use Rattle.replay.proofs.main.Statement.{statement}
 use Rattle.replay.proofs.main.Tie as tie
 
 abbrev Inv-loop : tie.InvT-loop
-Inv-loop read₀ line₀ gather₀ out₀ kept₀ taken₀ turns₀ read line gather out kept taken turns = (length line ≡ 270000) × (length gather ≡ 17000) × (length out ≡ 17000)
+Inv-loop read₀ line₀ gather₀ out₀ words₀ kept₀ taken₀ turns₀ read line gather out words kept taken turns = (length gather ≡ 17000) × (length out ≡ 17000)
 
 abbrev μ-loop : tie.MeasureT-loop
-μ-loop read₀ line₀ gather₀ out₀ kept₀ taken₀ turns₀ read line gather out kept taken turns = turns
+μ-loop read₀ line₀ gather₀ out₀ words₀ kept₀ taken₀ turns₀ read line gather out words kept taken turns = turns
 
 pub main-spec : {M : Type 1} → statement M
 main-spec =
@@ -19,17 +19,16 @@ main-spec =
     Inv-loop
     μ-loop
     (λ c κs. search needs)  -- large-buffer-requires
-    (λ c κs. search needs)  -- room-requires
+    (λ c κs. search needs)  -- no-line-requires
     (λ c κs. search needs)  -- buffer-requires
     (λ c κs. search needs)  -- buffer-requires-2
     (λ c κs. search needs)  -- first-requires
     (λ c. search needs)  -- loop-holds
-    (λ c. search needs)  -- slice-aggregate-next-line
     (λ c κs. search needs)  -- next-line-requires
     (λ c κs. search needs)  -- is-end-requires
+    (λ c κs. search needs)  -- called-requires
     (λ c. search needs)  -- slice-aggregate-answered
     (λ c. search needs)  -- slice-aggregate-answered-2
-    (λ c. search needs)  -- slice-aggregate-answered-3
     (λ c κs. search needs)  -- answered-requires
     (λ c. search needs)  -- sub-turns
     (λ c. search needs)  -- loop-less

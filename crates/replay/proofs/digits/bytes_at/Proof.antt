@@ -2,16 +2,14 @@
 -- Assumes nothing.
 use borrow.Author.Needs.{needs}
 use Prim.Native.Nat.{_≤_, _+_, _-_}
-use mathlib.Core.Path.{_≡_}
-use lib.ListN.{length}
 use Rattle.replay.proofs.digits.bytes_at.Statement.{statement}
 use Rattle.replay.proofs.digits.bytes_at.Tie as tie
 
 abbrev Inv-loop : tie.InvT-loop
-Inv-loop line₀ start most dash len₀ end₀ line len end = (start + len ≤ end) × (length line ≡ length line₀)
+Inv-loop line₀ start most dash n₀ end₀ line n end = start + n ≤ end
 
 abbrev μ-loop : tie.MeasureT-loop
-μ-loop line₀ start most dash len₀ end₀ line len end = length line₀ - end
+μ-loop line₀ start most dash n₀ end₀ line n end = 270000 - end
 
 pub bytes-at-spec : {M : Type 1} → statement M
 bytes-at-spec =
@@ -21,17 +19,15 @@ bytes-at-spec =
     μ-loop
     (λ c κs. search needs)  -- past-dash-requires
     (λ c κs. search needs)  -- word-requires
-    (λ c. search needs)  -- same-length
     (λ c. search needs)  -- returns
     (λ c. search needs)  -- loop-holds
     (λ c κs. search needs)  -- pair-requires
     (λ c. search needs)  -- cast-line
     (λ c. search needs)  -- add-line
-    (λ c. search needs)  -- slice-write-line
-    (λ c. search needs)  -- add-len
+    (λ c. search needs)  -- element-write-line
+    (λ c. search needs)  -- add-n
     (λ c. search needs)  -- add-end
     (λ c. search needs)  -- loop-less
     (λ c. search needs)  -- loop-again
     (λ c κs. search needs)  -- word-requires-2
-    (λ c. search needs)  -- same-length-2
     (λ c. search needs))  -- returns-2

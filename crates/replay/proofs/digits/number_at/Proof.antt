@@ -2,7 +2,6 @@
 -- Assumes nothing.
 use borrow.Author.Needs.{needs}
 use Prim.Native.Nat.{_≤_, _-_}
-use lib.ListN.{length}
 use Rattle.replay.proofs.digits.number_at.Statement.{statement}
 use Rattle.replay.proofs.digits.number_at.Tie as tie
 
@@ -10,7 +9,7 @@ abbrev Inv-loop : tie.InvT-loop
 Inv-loop line start most number₀ end₀ number end = start ≤ end
 
 abbrev μ-loop : tie.MeasureT-loop
-μ-loop line start most number₀ end₀ number end = length line - end
+μ-loop line start most number₀ end₀ number end = 270000 - end
 
 pub number-at-spec : {M : Type 1} → statement M
 number-at-spec =
@@ -19,7 +18,7 @@ number-at-spec =
     Inv-loop
     μ-loop
     (λ c. search needs)  -- loop-holds
-    (λ c. search needs)  -- shared-slice-read-digit
+    (λ c. search needs)  -- element-copy-out-digit
     (λ c κs. search needs)  -- digit-requires
     (λ c. search needs)  -- mul-number
     (λ c. search needs)  -- add-number

@@ -1,13 +1,12 @@
--- The next line: safe, and it ends. The room for it keeps its length; the measure is the number of turns that are left.
+-- The next line: safe, and it ends. The measure is the number of turns that are left.
 -- Assumes nothing.
 use borrow.Author.Needs.{needs}
-use mathlib.Core.Path.{_≡_}
-use lib.ListN.{length}
+use Prim.Native.Nat.{_≤_}
 use Rattle.replay.proofs.lines.next_line.Statement.{statement}
 use Rattle.replay.proofs.lines.next_line.Tie as tie
 
 abbrev Inv-loop : tie.InvT-loop
-Inv-loop line₀ read₀ t₀ turns₀ line read t turns = length line ≡ length line₀
+Inv-loop line₀ read₀ t₀ turns₀ line read t turns = 0 ≤ turns
 
 abbrev μ-loop : tie.MeasureT-loop
 μ-loop line₀ read₀ t₀ turns₀ line read t turns = turns
@@ -23,15 +22,11 @@ next-line-spec =
     (λ c. search needs)  -- element-copy-out-b
     (λ c. search needs)  -- add-t14
     (λ c κs. search needs)  -- push-requires
-    (λ c. search needs)  -- add-t18
+    (λ c. search needs)  -- add-t17
     (λ c. search needs)  -- sub-turns
     (λ c. search needs)  -- loop-less
     (λ c. search needs)  -- loop-again
-    (λ c. search needs)  -- same-length
     (λ c. search needs)  -- returns
-    (λ c. search needs)  -- same-length-2
     (λ c. search needs)  -- returns-2
-    (λ c. search needs)  -- same-length-3
     (λ c. search needs)  -- returns-3
-    (λ c. search needs)  -- same-length-4
     (λ c. search needs))  -- returns-4
