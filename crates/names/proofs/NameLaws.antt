@@ -10,7 +10,7 @@ use mathlib.Core.List.{List, [], _∷_}
 use lib.ListN.{length, drop, getD}
 use lib.Dec.{eqb, leb}
 use Rattle.laws.specs.Lists.{all, empty}
-use Rattle.names.specs.Name.{digit, component, nameOk, splitAtDots, ahead}
+use Rattle.names.specs.Name.{digit, component, nameOk, components, ahead}
 use Rattle.names.specs.Private.OnePass.{next, reads, afterDot, afterDigit, ends}
 use Rattle.names.specs.declared.name.Part.{Part}
 use Rattle.names.specs.declared.name.Part.the-variants.{Start, Zero, Digits, Bad}
@@ -69,33 +69,33 @@ start-ahead : (x : ℕ) (l : List (List ℕ)) → rest Start (ahead x l) ≡ all
 start-ahead x [] = refl
 start-ahead x (h ∷ t) = refl
 
-start-all : (s : List ℕ) → rest Start (splitAtDots 46 s) ≡ all component (splitAtDots 46 s)
+start-all : (s : List ℕ) → rest Start (components s) ≡ all component (components s)
 start-all [] = refl
 start-all (x ∷ s) = go (eqb x 46)
   where
-    go : (d : Bool) → rest Start (cond d ([] ∷ splitAtDots 46 s) (ahead x (splitAtDots 46 s))) ≡ all component (cond d ([] ∷ splitAtDots 46 s) (ahead x (splitAtDots 46 s)))
+    go : (d : Bool) → rest Start (cond d ([] ∷ components s) (ahead x (components s))) ≡ all component (cond d ([] ∷ components s) (ahead x (components s)))
     go true = refl
-    go false = start-ahead x (splitAtDots 46 s)
+    go false = start-ahead x (components s)
 
-rest-dot : (p : Part) (s : List ℕ) → rest (afterDot p) (splitAtDots 46 s) ≡ rest p ([] ∷ splitAtDots 46 s)
-rest-dot Start s = rest-bad (splitAtDots 46 s)
+rest-dot : (p : Part) (s : List ℕ) → rest (afterDot p) (components s) ≡ rest p ([] ∷ components s)
+rest-dot Start s = rest-bad (components s)
 rest-dot Zero s = start-all s
 rest-dot Digits s = start-all s
-rest-dot Bad s = rest-bad (splitAtDots 46 s)
+rest-dot Bad s = rest-bad (components s)
 
 -- ---- the whole
-rest-step : (p : Part) (x : ℕ) (s : List ℕ) (d : Bool) → rest (cond d (afterDot p) (cond (digit x) (afterDigit (eqb x 48) p) Bad)) (splitAtDots 46 s) ≡ rest p (cond d ([] ∷ splitAtDots 46 s) (ahead x (splitAtDots 46 s)))
+rest-step : (p : Part) (x : ℕ) (s : List ℕ) (d : Bool) → rest (cond d (afterDot p) (cond (digit x) (afterDigit (eqb x 48) p) Bad)) (components s) ≡ rest p (cond d ([] ∷ components s) (ahead x (components s)))
 rest-step p x s true = rest-dot p s
-rest-step p x s false = rest-ahead p x (splitAtDots 46 s)
+rest-step p x s false = rest-ahead p x (components s)
 
-reads-rest : (p : Part) (s : List ℕ) → reads p s ≡ rest p (splitAtDots 46 s)
+reads-rest : (p : Part) (s : List ℕ) → reads p s ≡ rest p (components s)
 reads-rest Start [] = refl
 reads-rest Zero [] = refl
 reads-rest Digits [] = refl
 reads-rest Bad [] = refl
 reads-rest p (x ∷ s) = reads-rest (next p x) s ∙ rest-step p x s (eqb x 46)
 
-pub reads-name : (s : List ℕ) → reads Start s ≡ all component (splitAtDots 46 s)
+pub reads-name : (s : List ℕ) → reads Start s ≡ all component (components s)
 reads-name s = reads-rest Start s ∙ start-all s
 
 -- ---- what the loop's proof cites

@@ -6,15 +6,15 @@ use lib.Dec.{leb, eqb}
 use lib.ListN.{length}
 use Rattle.laws.specs.Lists.{all, empty}
 
--- x put in front of the first part
+-- x put in front of the first component
 abbrev pub ahead : ℕ → List (List ℕ) → List (List ℕ)
 ahead x [] = (x ∷ []) ∷ []
 ahead x (p ∷ ps) = (x ∷ p) ∷ ps
 
--- the parts between the separators: one more than there are separators
-abbrev pub splitAtDots : ℕ → List ℕ → List (List ℕ)
-splitAtDots sep [] = [] ∷ []
-splitAtDots sep (x ∷ xs) = cond (eqb x sep) ([] ∷ splitAtDots sep xs) (ahead x (splitAtDots sep xs))
+-- the components: what stands between the dots ('.' is 46), one more than there are dots
+abbrev pub components : List ℕ → List (List ℕ)
+components [] = [] ∷ []
+components (x ∷ xs) = cond (eqb x 46) ([] ∷ components xs) (ahead x (components xs))
 
 -- '0' is 48, '9' is 57
 abbrev pub digit : ℕ → Bool
@@ -27,4 +27,4 @@ component (x ∷ xs) = all digit (x ∷ xs) && (not (eqb x 48) || empty xs)
 
 -- '.' is 46
 unfoldable pub nameOk : List ℕ → Bool
-nameOk s = leb 1 (length s) && leb (length s) 64 && all component (splitAtDots 46 s)
+nameOk s = leb 1 (length s) && leb (length s) 64 && all component (components s)
