@@ -89,15 +89,33 @@ enum feo_refusal_number {
     FEO_NO_SUCH_PDU = 7     /* the bytes are no whole valid PDU of the kind that is read */
 };
 
-/* An association. The host reads it; only FEO_FRESH, feo_fresh and the calls write it. In a mark any non-zero byte is set. */
+/*
+ * An association. The host reads it; only FEO_FRESH, feo_fresh and the calls write it. In a mark any non-zero byte is set. The
+ * calls take its 16 bytes, numbers low byte first: the order and the widths of the fields are fixed.
+ */
 struct feo_assoc {
     uint8_t state;       /* 1 to 13 */
-    size_t gathered;     /* bytes of an unfinished PDU in the gather buffer */
     uint8_t deaf;        /* after a PDU of more than 16,384: bytes are used and dropped until Sta1 */
     uint8_t artim;       /* the ARTIM timer is to run: in Sta2 and Sta13 */
     uint8_t requestor;   /* we asked for the association */
     uint32_t peer_max;   /* the greatest PDU-length that the peer takes in a P-DATA-TF; 0: no limit, or not known yet */
+    size_t gathered;     /* bytes of an unfinished PDU in the gather buffer */
 };
+
+/* Where a field has another place or width nothing compiles, in C99, C11 and C++ alike: an array of -1 elements. */
+#define FEO_FIELD(field, at, width) \
+    typedef char feo_assert_##field[offsetof(struct feo_assoc, field) == (at) && sizeof(((struct feo_assoc *)0)->field) == (width) ? 1 : -1]
+FEO_FIELD(state, 0, 1);
+FEO_FIELD(deaf, 1, 1);
+FEO_FIELD(artim, 2, 1);
+FEO_FIELD(requestor, 3, 1);
+FEO_FIELD(peer_max, 4, 4);
+FEO_FIELD(gathered, 8, 8);
+#undef FEO_FIELD
+typedef char feo_assert_size[sizeof(struct feo_assoc) == 16 ? 1 : -1];
+#if defined(__BYTE_ORDER__) && __BYTE_ORDER__ != __ORDER_LITTLE_ENDIAN__
+#error "struct feo_assoc has its numbers low byte first"
+#endif
 
 /* What a call did. */
 struct feo_answer {
@@ -119,38 +137,30 @@ struct feo_associate {
 /* A fresh association: struct feo_assoc a = FEO_FRESH; */
 #define FEO_FRESH { 1, 0, 0, 0, 0, 0 }
 
-/* The proved functions, which take the numbers one by one. Hosts call the ones below them. */
+/* The proved functions. They take the association as its bytes, and hand action, used, sent and shown out. Hosts call the ones below. */
 #ifdef __cplusplus
 extern "C" {
 #endif
-void feo_raw_fresh(uint8_t *state, size_t *gathered, uint8_t *deaf, uint8_t *artim, uint8_t *requestor, uint32_t *peer_max);
+void feo_raw_fresh(struct feo_assoc *a);
 uint8_t feo_raw_receive(
-    uint8_t *state, size_t *gathered, uint8_t *deaf, uint8_t *artim, uint8_t *requestor, uint32_t *peer_max,
-    uint8_t *gather, size_t gather_len, const uint8_t *piece, size_t piece_len, uint8_t *out, size_t out_len,
-    uint8_t *action, size_t *used, size_t *sent, size_t *shown);
+    struct feo_assoc *a, uint8_t *gather, size_t gather_len, const uint8_t *piece, size_t piece_len, uint8_t *out, size_t out_len,
+    size_t answer[4]);
 uint8_t feo_raw_event(
-    uint8_t *state, size_t *gathered, uint8_t *deaf, uint8_t *artim, uint8_t *requestor, uint32_t *peer_max,
-    uint8_t event, const uint8_t *gather, size_t gather_len, uint8_t *out, size_t out_len,
-    uint8_t *action, size_t *used, size_t *sent, size_t *shown);
+    struct feo_assoc *a, uint8_t event, const uint8_t *gather, size_t gather_len, uint8_t *out, size_t out_len, size_t answer[4]);
 uint8_t feo_raw_confirm(
-    uint8_t *state, size_t *gathered, uint8_t *deaf, uint8_t *artim, uint8_t *requestor, uint32_t *peer_max,
-    const uint8_t *called, size_t called_len, const uint8_t *calling, size_t calling_len,
+    struct feo_assoc *a, const uint8_t *called, size_t called_len, const uint8_t *calling, size_t calling_len,
     const uint8_t *application, size_t application_len, const uint8_t *sheet, size_t sheet_len,
-    const uint8_t *gather, size_t gather_len, uint8_t *out, size_t out_len,
-    uint8_t *action, size_t *used, size_t *sent, size_t *shown);
+    const uint8_t *gather, size_t gather_len, uint8_t *out, size_t out_len, size_t answer[4]);
 uint8_t feo_raw_accept(
-    uint8_t *state, size_t *gathered, uint8_t *deaf, uint8_t *artim, uint8_t *requestor, uint32_t *peer_max,
-    const uint8_t *echoed, size_t echoed_len, const uint8_t *application, size_t application_len,
+    struct feo_assoc *a, const uint8_t *echoed, size_t echoed_len, const uint8_t *application, size_t application_len,
     const uint8_t *sheet, size_t sheet_len, const uint8_t *gather, size_t gather_len, uint8_t *out, size_t out_len,
-    uint8_t *action, size_t *used, size_t *sent, size_t *shown);
+    size_t answer[4]);
 uint8_t feo_raw_reject(
-    uint8_t *state, size_t *gathered, uint8_t *deaf, uint8_t *artim, uint8_t *requestor, uint32_t *peer_max,
-    uint8_t result, uint8_t source, uint8_t reason, const uint8_t *gather, size_t gather_len, uint8_t *out, size_t out_len,
-    uint8_t *action, size_t *used, size_t *sent, size_t *shown);
+    struct feo_assoc *a, uint8_t result, uint8_t source, uint8_t reason,
+    const uint8_t *gather, size_t gather_len, uint8_t *out, size_t out_len, size_t answer[4]);
 uint8_t feo_raw_send(
-    uint8_t *state, size_t *gathered, uint8_t *deaf, uint8_t *artim, uint8_t *requestor, uint32_t *peer_max,
-    const uint8_t *items, size_t items_len, const uint8_t *gather, size_t gather_len, uint8_t *out, size_t out_len,
-    uint8_t *action, size_t *used, size_t *sent, size_t *shown);
+    struct feo_assoc *a, const uint8_t *items, size_t items_len,
+    const uint8_t *gather, size_t gather_len, uint8_t *out, size_t out_len, size_t answer[4]);
 uint8_t feo_raw_read_request(
     const uint8_t *pdu, size_t pdu_len, uint8_t *sheet, size_t sheet_len,
     uint16_t *version, size_t *application_at, size_t *application_len, uint32_t *maximum, size_t *records);
@@ -179,10 +189,20 @@ static inline uint8_t *feo_room(uint8_t *p, size_t n)
     return n != 0 ? p : &none;
 }
 
+static inline uint8_t feo_told(struct feo_answer *r, uint8_t refusal, const size_t answer[4])
+{
+    r->refusal = refusal;
+    r->action = (uint8_t)answer[0];
+    r->used = answer[1];
+    r->sent = answer[2];
+    r->shown = answer[3];
+    return refusal;
+}
+
 /* Makes *a a fresh association. */
 static inline void feo_fresh(struct feo_assoc *a)
 {
-    feo_raw_fresh(&a->state, &a->gathered, &a->deaf, &a->artim, &a->requestor, &a->peer_max);
+    feo_raw_fresh(a);
 }
 
 /*
@@ -193,11 +213,11 @@ static inline uint8_t feo_receive(
     struct feo_assoc *a, uint8_t *gather, size_t gather_len, const uint8_t *piece, size_t piece_len, uint8_t *out, size_t out_len,
     struct feo_answer *r)
 {
-    r->refusal = feo_raw_receive(
-        &a->state, &a->gathered, &a->deaf, &a->artim, &a->requestor, &a->peer_max,
-        feo_room(gather, gather_len), gather_len, feo_part(piece, piece_len), piece_len, feo_room(out, out_len), out_len,
-        &r->action, &r->used, &r->sent, &r->shown);
-    return r->refusal;
+    size_t answer[4];
+    const uint8_t refusal = feo_raw_receive(
+        a, feo_room(gather, gather_len), gather_len, feo_part(piece, piece_len), piece_len, feo_room(out, out_len), out_len,
+        answer);
+    return feo_told(r, refusal, answer);
 }
 
 /*
@@ -207,11 +227,10 @@ static inline uint8_t feo_receive(
 static inline uint8_t feo_event(
     struct feo_assoc *a, uint8_t event, const uint8_t *gather, size_t gather_len, uint8_t *out, size_t out_len, struct feo_answer *r)
 {
-    r->refusal = feo_raw_event(
-        &a->state, &a->gathered, &a->deaf, &a->artim, &a->requestor, &a->peer_max,
-        event, feo_part(gather, gather_len), gather_len, feo_room(out, out_len), out_len,
-        &r->action, &r->used, &r->sent, &r->shown);
-    return r->refusal;
+    size_t answer[4];
+    const uint8_t refusal = feo_raw_event(
+        a, event, feo_part(gather, gather_len), gather_len, feo_room(out, out_len), out_len, answer);
+    return feo_told(r, refusal, answer);
 }
 
 /* The transport connection that we asked for is there: sends an A-ASSOCIATE-RQ. Titles of 16 bytes; the sheet is a proposal. */
@@ -220,13 +239,12 @@ static inline uint8_t feo_confirm(
     const uint8_t *application, size_t application_len, const uint8_t *sheet, size_t sheet_len,
     const uint8_t *gather, size_t gather_len, uint8_t *out, size_t out_len, struct feo_answer *r)
 {
-    r->refusal = feo_raw_confirm(
-        &a->state, &a->gathered, &a->deaf, &a->artim, &a->requestor, &a->peer_max,
-        feo_part(called, called_len), called_len, feo_part(calling, calling_len), calling_len,
+    size_t answer[4];
+    const uint8_t refusal = feo_raw_confirm(
+        a, feo_part(called, called_len), called_len, feo_part(calling, calling_len), calling_len,
         feo_part(application, application_len), application_len, feo_part(sheet, sheet_len), sheet_len,
-        feo_part(gather, gather_len), gather_len, feo_room(out, out_len), out_len,
-        &r->action, &r->used, &r->sent, &r->shown);
-    return r->refusal;
+        feo_part(gather, gather_len), gather_len, feo_room(out, out_len), out_len, answer);
+    return feo_told(r, refusal, answer);
 }
 
 /* Accepts: sends an A-ASSOCIATE-AC. echoed: the FEO_ECHOED_LEN bytes at FEO_ECHOED_AT of the RQ; the sheet is an answer. */
@@ -235,12 +253,11 @@ static inline uint8_t feo_accept(
     const uint8_t *sheet, size_t sheet_len, const uint8_t *gather, size_t gather_len, uint8_t *out, size_t out_len,
     struct feo_answer *r)
 {
-    r->refusal = feo_raw_accept(
-        &a->state, &a->gathered, &a->deaf, &a->artim, &a->requestor, &a->peer_max,
-        feo_part(echoed, echoed_len), echoed_len, feo_part(application, application_len), application_len,
-        feo_part(sheet, sheet_len), sheet_len, feo_part(gather, gather_len), gather_len, feo_room(out, out_len), out_len,
-        &r->action, &r->used, &r->sent, &r->shown);
-    return r->refusal;
+    size_t answer[4];
+    const uint8_t refusal = feo_raw_accept(
+        a, feo_part(echoed, echoed_len), echoed_len, feo_part(application, application_len), application_len,
+        feo_part(sheet, sheet_len), sheet_len, feo_part(gather, gather_len), gather_len, feo_room(out, out_len), out_len, answer);
+    return feo_told(r, refusal, answer);
 }
 
 /* Rejects: sends an A-ASSOCIATE-RJ. result 1 or 2; source and reason 1: 1, 2, 3, 7; 2: 1, 2; 3: 1, 2. */
@@ -248,11 +265,10 @@ static inline uint8_t feo_reject(
     struct feo_assoc *a, uint8_t result, uint8_t source, uint8_t reason,
     const uint8_t *gather, size_t gather_len, uint8_t *out, size_t out_len, struct feo_answer *r)
 {
-    r->refusal = feo_raw_reject(
-        &a->state, &a->gathered, &a->deaf, &a->artim, &a->requestor, &a->peer_max,
-        result, source, reason, feo_part(gather, gather_len), gather_len, feo_room(out, out_len), out_len,
-        &r->action, &r->used, &r->sent, &r->shown);
-    return r->refusal;
+    size_t answer[4];
+    const uint8_t refusal = feo_raw_reject(
+        a, result, source, reason, feo_part(gather, gather_len), gather_len, feo_room(out, out_len), out_len, answer);
+    return feo_told(r, refusal, answer);
 }
 
 /* Sends data. items: PDV items as they stand in a P-DATA-TF, one or more: four-byte length, ID, control byte (0 to 3), fragment. */
@@ -260,11 +276,11 @@ static inline uint8_t feo_send(
     struct feo_assoc *a, const uint8_t *items, size_t items_len, const uint8_t *gather, size_t gather_len,
     uint8_t *out, size_t out_len, struct feo_answer *r)
 {
-    r->refusal = feo_raw_send(
-        &a->state, &a->gathered, &a->deaf, &a->artim, &a->requestor, &a->peer_max,
-        feo_part(items, items_len), items_len, feo_part(gather, gather_len), gather_len, feo_room(out, out_len), out_len,
-        &r->action, &r->used, &r->sent, &r->shown);
-    return r->refusal;
+    size_t answer[4];
+    const uint8_t refusal = feo_raw_send(
+        a, feo_part(items, items_len), items_len, feo_part(gather, gather_len), gather_len, feo_room(out, out_len), out_len,
+        answer);
+    return feo_told(r, refusal, answer);
 }
 
 /*

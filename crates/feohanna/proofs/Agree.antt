@@ -1,4 +1,4 @@
--- Any two permitted answers agree, for each function, and so do the numbers and the buffers that it was lent, as it leaves them.
+-- Any two permitted answers agree, for each function, and so do the numbers, the association and the buffers that it was lent, as it leaves them.
 -- Assumes nothing.
 use mathlib.Core.Path.{refl, ap}
 use Prim.Native.Nat.{ℕ}
@@ -6,7 +6,7 @@ use mathlib.Core.List.{List, []}
 use denote.Ref.{now}
 use Rattle.laws.proofs.Agree.{agree, AgreesLent}
 use Rattle.reading.specs.declared.associate.Associate.{Associate}
-use Rattle.feohanna.specs.Numbers.{Handed, handed, numbers, told}
+use Rattle.feohanna.specs.Handed.{Handed, handed}
 use Rattle.feohanna.specs.Fields.{associate, reject, abort, pdvFields}
 use Rattle.feohanna.proofs.calls.feo_raw_receive as receive
 use Rattle.feohanna.proofs.calls.feo_raw_event as event
@@ -14,7 +14,7 @@ use Rattle.feohanna.proofs.calls.feo_raw_confirm as confirm
 use Rattle.feohanna.proofs.calls.feo_raw_accept as accept
 use Rattle.feohanna.proofs.calls.feo_raw_reject as reject
 use Rattle.feohanna.proofs.calls.feo_raw_send as send
-use Rattle.feohanna.proofs.hosted.feo_raw_fresh as fresh
+use Rattle.feohanna.proofs.assoc.feo_raw_fresh as fresh
 use Rattle.feohanna.proofs.readers.feo_raw_read_request as read-request
 use Rattle.feohanna.proofs.readers.feo_raw_read_accept as read-accept
 use Rattle.feohanna.proofs.readers.feo_raw_read_reject as read-reject
@@ -22,39 +22,35 @@ use Rattle.feohanna.proofs.readers.feo_raw_read_abort as read-abort
 use Rattle.feohanna.proofs.readers.feo_raw_read_data as read-data
 use Rattle.feohanna.proofs.title.feo_raw_title_known as title-known
 
--- what is handed out beside the refusal
+-- what is handed out beside the refusal, with the buffers lent
 abbrev rest : Handed → Handed
-rest h = handed (told 0 (h .answer .action) (h .answer .used) (h .answer .sent) (h .answer .shown)) (h .assoc) (h .gather) (h .out)
+rest h = handed 0 (h .answer) (h .assoc) (h .gather) (h .out)
+
+abbrev restBut : Handed → Handed
+restBut h = handed 0 (h .answer) (h .assoc) [] (h .out)
 
 abbrev others : Associate → Associate
 others f = associate 0 (f .version) (f .«application_at») (f .«application_len») (f .maximum) (f .records)
 
-pub feo-raw-receive-agrees : AgreesLent 13 receive.Kinds.ps receive.Kinds.r receive.Reads.Post
-    (λ κs x. handed (told 0 (now (x .1 .1 .1 .1 .1 .1 .1 .1 .1 .0)) (now (x .1 .1 .1 .1 .1 .1 .1 .1 .1 .1 .0)) (now (x .1 .1 .1 .1 .1 .1 .1 .1 .1 .1 .1 .0)) (now (x .1 .1 .1 .1 .1 .1 .1 .1 .1 .1 .1 .1 .0))) (numbers (now (x .0)) (now (x .1 .0)) (now (x .1 .1 .0)) (now (x .1 .1 .1 .0)) (now (x .1 .1 .1 .1 .0)) (now (x .1 .1 .1 .1 .1 .0))) (now (x .1 .1 .1 .1 .1 .1 .0)) (now (x .1 .1 .1 .1 .1 .1 .1 .1 .0)))
-feo-raw-receive-agrees κs args a b x y p q = (ap (λ h. h .answer .refusal) (agree p q), ap rest (agree p q))
+pub feo-raw-receive-agrees : AgreesLent 5 receive.Kinds.ps receive.Kinds.r receive.Reads.Post (λ κs x. handed 0 (now (x .1 .1 .1 .1 .0)) (now (x .0)) (now (x .1 .0)) (now (x .1 .1 .1 .0)))
+feo-raw-receive-agrees κs args a b x y p q = (ap (λ h. h .refusal) (agree p q), ap rest (agree p q))
 
-pub feo-raw-event-agrees : AgreesLent 12 event.Kinds.ps event.Kinds.r event.Reads.Post
-    (λ κs x. handed (told 0 (now (x .1 .1 .1 .1 .1 .1 .1 .1 .1 .0)) (now (x .1 .1 .1 .1 .1 .1 .1 .1 .1 .1 .0)) (now (x .1 .1 .1 .1 .1 .1 .1 .1 .1 .1 .1 .0)) (now (x .1 .1 .1 .1 .1 .1 .1 .1 .1 .1 .1 .1 .0))) (numbers (now (x .0)) (now (x .1 .0)) (now (x .1 .1 .0)) (now (x .1 .1 .1 .0)) (now (x .1 .1 .1 .1 .0)) (now (x .1 .1 .1 .1 .1 .0))) [] (now (x .1 .1 .1 .1 .1 .1 .1 .1 .0)))
-feo-raw-event-agrees κs args a b x y p q = (ap (λ h. h .answer .refusal) (agree p q), ap (λ h. handed (rest h .answer) (h .assoc) [] (h .out)) (agree p q))
+pub feo-raw-event-agrees : AgreesLent 4 event.Kinds.ps event.Kinds.r event.Reads.Post (λ κs x. handed 0 (now (x .1 .1 .1 .1 .0)) (now (x .0)) [] (now (x .1 .1 .1 .0)))
+feo-raw-event-agrees κs args a b x y p q = (ap (λ h. h .refusal) (agree p q), ap restBut (agree p q))
 
-pub feo-raw-confirm-agrees : AgreesLent 16 confirm.Kinds.ps confirm.Kinds.r confirm.Reads.Post
-    (λ κs x. handed (told 0 (now (x .1 .1 .1 .1 .1 .1 .1 .1 .1 .1 .1 .1 .0)) (now (x .1 .1 .1 .1 .1 .1 .1 .1 .1 .1 .1 .1 .1 .0)) (now (x .1 .1 .1 .1 .1 .1 .1 .1 .1 .1 .1 .1 .1 .1 .0)) (now (x .1 .1 .1 .1 .1 .1 .1 .1 .1 .1 .1 .1 .1 .1 .1 .0))) (numbers (now (x .0)) (now (x .1 .0)) (now (x .1 .1 .0)) (now (x .1 .1 .1 .0)) (now (x .1 .1 .1 .1 .0)) (now (x .1 .1 .1 .1 .1 .0))) [] (now (x .1 .1 .1 .1 .1 .1 .1 .1 .1 .1 .1 .0)))
-feo-raw-confirm-agrees κs args a b x y p q = (ap (λ h. h .answer .refusal) (agree p q), ap (λ h. handed (rest h .answer) (h .assoc) [] (h .out)) (agree p q))
+pub feo-raw-confirm-agrees : AgreesLent 8 confirm.Kinds.ps confirm.Kinds.r confirm.Reads.Post (λ κs x. handed 0 (now (x .1 .1 .1 .1 .1 .1 .1 .0)) (now (x .0)) [] (now (x .1 .1 .1 .1 .1 .1 .0)))
+feo-raw-confirm-agrees κs args a b x y p q = (ap (λ h. h .refusal) (agree p q), ap restBut (agree p q))
 
-pub feo-raw-accept-agrees : AgreesLent 15 accept.Kinds.ps accept.Kinds.r accept.Reads.Post
-    (λ κs x. handed (told 0 (now (x .1 .1 .1 .1 .1 .1 .1 .1 .1 .1 .1 .0)) (now (x .1 .1 .1 .1 .1 .1 .1 .1 .1 .1 .1 .1 .0)) (now (x .1 .1 .1 .1 .1 .1 .1 .1 .1 .1 .1 .1 .1 .0)) (now (x .1 .1 .1 .1 .1 .1 .1 .1 .1 .1 .1 .1 .1 .1 .0))) (numbers (now (x .0)) (now (x .1 .0)) (now (x .1 .1 .0)) (now (x .1 .1 .1 .0)) (now (x .1 .1 .1 .1 .0)) (now (x .1 .1 .1 .1 .1 .0))) [] (now (x .1 .1 .1 .1 .1 .1 .1 .1 .1 .1 .0)))
-feo-raw-accept-agrees κs args a b x y p q = (ap (λ h. h .answer .refusal) (agree p q), ap (λ h. handed (rest h .answer) (h .assoc) [] (h .out)) (agree p q))
+pub feo-raw-accept-agrees : AgreesLent 7 accept.Kinds.ps accept.Kinds.r accept.Reads.Post (λ κs x. handed 0 (now (x .1 .1 .1 .1 .1 .1 .0)) (now (x .0)) [] (now (x .1 .1 .1 .1 .1 .0)))
+feo-raw-accept-agrees κs args a b x y p q = (ap (λ h. h .refusal) (agree p q), ap restBut (agree p q))
 
-pub feo-raw-reject-agrees : AgreesLent 12 reject.Kinds.ps reject.Kinds.r reject.Reads.Post
-    (λ κs x. handed (told 0 (now (x .1 .1 .1 .1 .1 .1 .1 .1 .1 .1 .1 .0)) (now (x .1 .1 .1 .1 .1 .1 .1 .1 .1 .1 .1 .1 .0)) (now (x .1 .1 .1 .1 .1 .1 .1 .1 .1 .1 .1 .1 .1 .0)) (now (x .1 .1 .1 .1 .1 .1 .1 .1 .1 .1 .1 .1 .1 .1 .0))) (numbers (now (x .0)) (now (x .1 .0)) (now (x .1 .1 .0)) (now (x .1 .1 .1 .0)) (now (x .1 .1 .1 .1 .0)) (now (x .1 .1 .1 .1 .1 .0))) [] (now (x .1 .1 .1 .1 .1 .1 .1 .1 .1 .1 .0)))
-feo-raw-reject-agrees κs args a b x y p q = (ap (λ h. h .answer .refusal) (agree p q), ap (λ h. handed (rest h .answer) (h .assoc) [] (h .out)) (agree p q))
+pub feo-raw-reject-agrees : AgreesLent 4 reject.Kinds.ps reject.Kinds.r reject.Reads.Post (λ κs x. handed 0 (now (x .1 .1 .1 .1 .1 .1 .0)) (now (x .0)) [] (now (x .1 .1 .1 .1 .1 .0)))
+feo-raw-reject-agrees κs args a b x y p q = (ap (λ h. h .refusal) (agree p q), ap restBut (agree p q))
 
-pub feo-raw-send-agrees : AgreesLent 13 send.Kinds.ps send.Kinds.r send.Reads.Post
-    (λ κs x. handed (told 0 (now (x .1 .1 .1 .1 .1 .1 .1 .1 .1 .0)) (now (x .1 .1 .1 .1 .1 .1 .1 .1 .1 .1 .0)) (now (x .1 .1 .1 .1 .1 .1 .1 .1 .1 .1 .1 .0)) (now (x .1 .1 .1 .1 .1 .1 .1 .1 .1 .1 .1 .1 .0))) (numbers (now (x .0)) (now (x .1 .0)) (now (x .1 .1 .0)) (now (x .1 .1 .1 .0)) (now (x .1 .1 .1 .1 .0)) (now (x .1 .1 .1 .1 .1 .0))) [] (now (x .1 .1 .1 .1 .1 .1 .1 .1 .0)))
-feo-raw-send-agrees κs args a b x y p q = (ap (λ h. h .answer .refusal) (agree p q), ap (λ h. handed (rest h .answer) (h .assoc) [] (h .out)) (agree p q))
+pub feo-raw-send-agrees : AgreesLent 5 send.Kinds.ps send.Kinds.r send.Reads.Post (λ κs x. handed 0 (now (x .1 .1 .1 .1 .0)) (now (x .0)) [] (now (x .1 .1 .1 .0)))
+feo-raw-send-agrees κs args a b x y p q = (ap (λ h. h .refusal) (agree p q), ap restBut (agree p q))
 
-pub feo-raw-fresh-agrees : AgreesLent 6 fresh.Kinds.ps fresh.Kinds.r fresh.Reads.Post
-    (λ κs x. numbers (now (x .0)) (now (x .1 .0)) (now (x .1 .1 .0)) (now (x .1 .1 .1 .0)) (now (x .1 .1 .1 .1 .0)) (now (x .1 .1 .1 .1 .1 .0)))
+pub feo-raw-fresh-agrees : AgreesLent 1 fresh.Kinds.ps fresh.Kinds.r fresh.Reads.Post (λ κs x. now (x .0))
 feo-raw-fresh-agrees κs args a b x y p q = (refl, agree p q)
 
 pub feo-raw-read-request-agrees : AgreesLent {L = Associate × List ℕ} 7 read-request.Kinds.ps read-request.Kinds.r read-request.Reads.Post

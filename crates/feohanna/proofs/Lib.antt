@@ -1,3 +1,6 @@
-mod NumbersLaws
+pub mod LowLaws
+pub mod BytesLaws
+pub mod HandedLaws
 mod TitlesLaws
+pub mod Examples
 pub mod Agree

@@ -1,3 +1,5 @@
-pub mod Numbers
+pub mod Low
+pub mod Bytes
+pub mod Handed
 pub mod Fields
 pub mod Private
