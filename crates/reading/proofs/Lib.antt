@@ -7,4 +7,5 @@ pub mod Meaning
 pub mod Sizes
 pub mod Distinct
 pub mod Room
+pub mod Longest
 pub mod Examples

@@ -9,7 +9,7 @@ use lib.ListN.{length, take, drop, getD, length-drop}
 use lib.Seq.{length-take-le}
 use lib.Dec.{leb, eqb}
 use borrow.Author.Tests.{leb-true, eqb-true, not-true}
-use Rattle.laws.specs.Lists.{all, empty, among, distinct}
+use Rattle.laws.specs.Lists.{empty, among, distinct}
 use Rattle.laws.proofs.Booleans.{held, left-of, right-of}
 use Rattle.octets.specs.Octets.{be16}
 use Rattle.items.specs.Items.{Walk, done, broken, item, step, walkIn, walk, filled, bodies}
