@@ -4,4 +4,8 @@ pub mod ValueLaws
 pub mod DataLaws
 pub mod Agree
 pub mod Meaning
+pub mod Sizes
+pub mod Distinct
+pub mod Room
+pub mod Longest
 pub mod Examples

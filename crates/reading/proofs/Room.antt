@@ -1,0 +1,183 @@
+-- How much room the sheet of a valid RQ or AC can take: 3,257 records in a proposal, 128 in an answer. A sheet with that room is never too short to read into.
+-- Assumes nothing.
+use Prim.Native.Nat.{ℕ, zero, suc, _+_, _*_, _≤_, _<_}
+use native.Mathlib.Omega.{arith}
+use mathlib.Core.Bool.{Bool, true, false, not, _&&_, cond}
+use mathlib.Core.List.{List, [], _∷_, map}
+use mathlib.Core.Path.{_≡_, refl, sym, _∙_}
+use lib.ListN.{length, take, drop, getD, length-append, length-drop, length-map}
+use lib.Seq.{getD-take, getD-drop}
+use lib.Dec.{leb, ltb, eqb}
+use borrow.Author.Tests.{leb-true, le-ltb, lt-ltb, eqb-true}
+use Rattle.laws.specs.Lists.{all, among, distinct}
+use Rattle.laws.proofs.Booleans.{left-of, right-of, both-of}
+use Rattle.numbers.specs.Refusals.{NOT-REFUSED, SHORT-OUTPUT, NO-SUCH-PDU}
+use Rattle.numbers.specs.Kinds.{ASSOCIATE-RQ, ASSOCIATE-AC}
+use Rattle.octets.specs.Octets.{odd}
+use Rattle.names.specs.Name.{nameOk}
+use Rattle.names.proofs.NameLaws.{name-short}
+use Rattle.items.specs.Items.{Walk, walk, bodies, first}
+use Rattle.items.proofs.HoldLaws.{first-good}
+use Rattle.contents.specs.Contents.{bodyId, ids, good20H, good21H, good50H, topGood}
+use Rattle.contents.proofs.GoodLaws.{four-20, filled-20, abstract-names, transfer-names, counts-20, abstract-name, odd-21, transfer-name, one-50, one-filled, one-count, maximum-four, items-filled, items-good, items-counts, items-distinct, items-20, items-21}
+use Rattle.judging.specs.Pdu.{kindOf}
+use Rattle.judging.proofs.KindLaws.{whole-length, whole-limit, kind-whole, request-items, accept-items}
+use Rattle.sheets.specs.Sheet.{contextRecords, sheetOf, answerSheetOf}
+use Rattle.sheets.proofs.RecordLaws.{record-length}
+use Rattle.reading.specs.Associate.{contextOf, answerOf, proposed, answered, sheetIn, associateRefusal, Read}
+use Rattle.reading.specs.declared.associate.Associate.{Associate}
+use Rattle.reading.proofs.Meaning.{refusal-is, request-records}
+use Rattle.reading.proofs.Sizes.{sizes, sizesOf, sizes-most, by-items, size-filled}
+use Rattle.reading.proofs.Distinct.{odds-most}
+
+-- ---- the bytes that items take: of names, five or more each
+name-some : (s : List ℕ) → nameOk s ≡ true → 1 ≤ length s
+unfolding nameOk
+name-some s e = leb-true 1 (length s) (left-of (leb 1 (length s)) (leb (length s) 64) (left-of (leb 1 (length s) && leb (length s) 64) _ e))
+
+names-size : (bs : List (List ℕ)) → all nameOk bs ≡ true → 5 * length bs ≤ sizes bs
+unfolding sizes
+names-size [] g = omega arith
+names-size (b ∷ bs) g = let l = name-some b (left-of _ _ g) in let r = names-size bs (right-of (nameOk b) _ g) in omega arith
+
+-- a good 20H: four bytes, a 30H, and five bytes or more for each 40H
+context-size : (b : List ℕ) → good20H b ≡ true → 13 + 5 * length (bodies 0x40 (walk (drop 4 b))) ≤ 4 + length b
+unfolding sizesOf distinct among
+context-size b g =
+    let m = sizes-most (0x30 ∷ 0x40 ∷ []) refl (walk (drop 4 b)) in
+    let f = size-filled (drop 4 b) (filled-20 b g) in
+    let l = length-drop 4 b in
+    let h = four-20 b g in
+    let a = names-size (bodies 0x30 (walk (drop 4 b))) (abstract-names b g) in
+    let n = counts-20 b g .abstracts in
+    let t = names-size (bodies 0x40 (walk (drop 4 b))) (transfer-names b g) in
+    omega arith
+
+-- a good 50H: a 51H of four bytes
+first-size : (bs : List (List ℕ)) → length bs ≡ 1 → sizes bs ≡ 4 + length (first bs)
+unfolding sizes
+first-size [] e = absurd (omega arith)
+first-size (b ∷ []) e = omega arith
+first-size (b ∷ c ∷ bs) e = absurd (omega arith)
+
+user-size : (b : List ℕ) → good50H b ≡ true → 8 ≤ length b
+unfolding sizesOf distinct among
+user-size b g =
+    let m = sizes-most (0x51 ∷ []) refl (walk b) in
+    let f = size-filled b (one-filled 0x51 (walk b) (one-50 b g)) in
+    let l = first-size (bodies 0x51 (walk b)) (one-count 0x51 (walk b) (one-50 b g)) in
+    let n = maximum-four b g in
+    omega arith
+
+-- the one body of a type is good, and so takes at least as many bytes as a good one does
+one-size : (p : List ℕ → Bool) (n : ℕ) → ((b : List ℕ) → p b ≡ true → n ≤ length b) → (bs : List (List ℕ)) → length bs ≡ 1 → all p bs ≡ true → 4 + n ≤ sizes bs
+one-size p n f bs e g = let s = first-size bs e in let l = f (first bs) (first-good p bs (omega arith) g) in omega arith
+
+-- ---- a proposal: 132 bytes for each 40H
+records-size : (id : ℕ) (a : List ℕ) (xs : List (List ℕ)) → nameOk a ≡ true → all nameOk xs ≡ true → length (contextRecords id a xs) ≡ 132 * length xs
+unfolding contextRecords
+records-size id a [] h g = refl
+records-size id a (x ∷ xs) h g =
+    let l = record-length id 0 a x (name-short a h) (name-short x (left-of _ _ g)) in
+    let r = records-size id a xs h (right-of (nameOk x) _ g) in
+    simp length-append (omega arith)
+
+proposed-size : (bs : List (List ℕ)) → all good20H bs ≡ true → 5 * length (sheetOf (map contextOf bs)) + 132 * 13 * length bs ≤ 132 * sizes bs
+unfolding sheetOf contextOf sizes
+proposed-size [] g = omega arith
+proposed-size (b ∷ bs) g =
+    let o : good20H b ≡ true = left-of _ _ g in
+    let c = context-size b o in
+    let l = records-size (getD b 0 0) (first (bodies 0x30 (walk (drop 4 b)))) (bodies 0x40 (walk (drop 4 b))) (abstract-name b o) (transfer-names b o) in
+    let r = proposed-size bs (right-of (good20H b) _ g) in
+    simp length-append (omega arith)
+
+-- ---- an answer: 132 bytes for each 21H
+answered-size : (bs : List (List ℕ)) → all good21H bs ≡ true → length (answerSheetOf (map answerOf bs)) ≡ 132 * length bs
+unfolding answerSheetOf answerOf
+answered-size [] g = refl
+answered-size (b ∷ bs) g =
+    let z : length {A = ℕ} [] ≤ 64 = omega arith in
+    let l = record-length (getD b 0 0) (getD b 2 0) [] (first (bodies 0x40 (walk (drop 4 b)))) z (name-short _ (transfer-name b (left-of _ _ g))) in
+    let r = answered-size bs (right-of (good21H b) _ g) in
+    simp length-append (omega arith)
+
+ids-odd : (bs : List (List ℕ)) → all good21H bs ≡ true → all odd (map bodyId bs) ≡ true
+ids-odd [] g = refl
+ids-odd (b ∷ bs) g = both-of _ _ (odd-21 b (left-of _ _ g)) (ids-odd bs (right-of (good21H b) _ g))
+
+-- an ID is one of the bytes
+first-byte : (n : ℕ) (s : List ℕ) → ((i : ℕ) → getD s i 0 < 256) → getD (take n (drop 4 s)) 0 0 < 256
+first-byte zero s h = omega arith
+first-byte (suc n) s h = let k = h 4 in rw (getD-take (suc n) (drop 4 s) 0 0 (omega arith), getD-drop 4 s 0 0) k
+
+ids-bytes : (k : ℕ) (s : List ℕ) → ((i : ℕ) → getD s i 0 < 256) → all (λ x. ltb x 256) (map bodyId (bodies k (walk s))) ≡ true
+unfolding bodies
+ids-bytes k =
+    by-items (λ s w. ((i : ℕ) → getD s i 0 < 256) → all (λ x. ltb x 256) (map bodyId (bodies k w)) ≡ true) (λ h. refl) (λ s h. refl) (λ s n w l r h.
+    go s n w (eqb (getD s 0 0) k) (lt-ltb _ _ (first-byte n s h)) (r (λ i. rw (getD-drop (4 + n) s i 0) (h (4 + n + i)))))
+  where
+    go : (s : List ℕ) (n : ℕ) (w : Walk) (d : Bool) → ltb (getD (take n (drop 4 s)) 0 0) 256 ≡ true → all (λ x. ltb x 256) (map bodyId (bodies k w)) ≡ true
+        → all (λ x. ltb x 256) (map bodyId (cond d (take n (drop 4 s) ∷ bodies k w) (bodies k w))) ≡ true
+    go s n w true p q = both-of _ _ p q
+    go s n w false p q = q
+
+-- ---- the most that a valid PDU can fill
+-- an RQ: PDU-length 16,384, of which 68 are fixed, 5 for a 10H, 12 for a 50H, 13 for a 20H and 5 for each of its 40H
+pub proposal-most : (x : List ℕ) → kindOf x ≡ ASSOCIATE-RQ → length (sheetIn ASSOCIATE-RQ x) ≤ 132 * 3257
+unfolding sheetIn proposed topGood sizesOf distinct among
+proposal-most x v =
+    let s : List ℕ = drop 74 x in
+    let g = request-items x v in
+    let w = kind-whole x 1 v (λ z. omega arith) in
+    let l = whole-length x w in
+    let h = whole-limit x w in
+    let d = length-drop 74 x in
+    let c = items-counts 0x20 s g refl refl in
+    let c1 = c .applications in
+    let c2 = c .contexts in
+    let c3 = c .users in
+    let f = size-filled s (items-filled 0x20 s g) in
+    let m = sizes-most (0x10 ∷ 0x20 ∷ 0x50 ∷ []) refl (walk s) in
+    let a = one-size nameOk 1 name-some (bodies 0x10 (walk s)) c1 (items-good 0x20 s g 0x10 refl) in
+    let u = one-size good50H 8 user-size (bodies 0x50 (walk s)) c3 (items-good 0x20 s g 0x50 refl) in
+    let p = proposed-size (bodies 0x20 (walk s)) (items-20 s g) in
+    let e = request-records x v in
+    omega arith
+
+-- an AC: the 128 odd numbers that a byte can be. The PDU is a list of bytes, that is, of numbers below 256
+pub answer-most : (x : List ℕ) → ((i : ℕ) → getD x i 0 < 256) → kindOf x ≡ ASSOCIATE-AC → length (sheetIn ASSOCIATE-AC x) ≤ 132 * 128
+unfolding sheetIn answered ids
+answer-most x b v =
+    let s : List ℕ = drop 74 x in
+    let g = accept-items x v in
+    let n = odds-most 128 (map bodyId (bodies 0x21 (walk s))) (items-distinct 0x21 s g) (ids-odd (bodies 0x21 (walk s)) (items-21 s g))
+    (ids-bytes 0x21 s (λ i. rw (getD-drop 74 x i 0) (b (74 + i)))) in
+    let l = length-map (bodies 0x21 (walk s)) bodyId in
+    let z = answered-size (bodies 0x21 (walk s)) (items-21 s g) in
+    omega arith
+
+-- ---- so a sheet with that room is never too short
+enough : (kind room most : ℕ) (x : List ℕ) → (kindOf x ≡ kind → length (sheetIn kind x) ≤ most) → most ≤ room → associateRefusal kind x room ≡ SHORT-OUTPUT → ⊥
+enough kind room most x f h = go (eqb (kindOf x) kind) refl
+  where
+    go : (d : Bool) → eqb (kindOf x) kind ≡ d → cond (not d) NO-SUCH-PDU (cond (ltb room (length (sheetIn kind x))) SHORT-OUTPUT NOT-REFUSED) ≡ SHORT-OUTPUT → ⊥
+    go false q e = absurd (omega arith)
+    go true q e =
+        let l = f (eqb-true _ _ q) in
+        let t : ltb room (length (sheetIn kind x)) ≡ false = le-ltb room (length (sheetIn kind x)) (omega arith) in
+        let z : NOT-REFUSED ≡ SHORT-OUTPUT = simp t at e in
+        omega arith
+
+pub proposal-room : (x : List ℕ) (room : ℕ) → 132 * 3257 ≤ room → associateRefusal ASSOCIATE-RQ x room ≡ SHORT-OUTPUT → ⊥
+proposal-room x room h = enough ASSOCIATE-RQ room (132 * 3257) x (proposal-most x) h
+
+pub answer-room : (x : List ℕ) → ((i : ℕ) → getD x i 0 < 256) → (room : ℕ) → 132 * 128 ≤ room → associateRefusal ASSOCIATE-AC x room ≡ SHORT-OUTPUT → ⊥
+answer-room x b room h = enough ASSOCIATE-AC room (132 * 128) x (answer-most x b) h
+
+-- and no call that keeps the contract of `read_request` or `read_accept` says so
+pub request-never-short : (x s : List ℕ) (r : Associate) (s′ : List ℕ) → Read ASSOCIATE-RQ x s r s′ → 132 * 3257 ≤ length s → r .refusal ≡ SHORT-OUTPUT → ⊥
+request-never-short x s r s′ w h e = proposal-room x (length s) h (sym (refusal-is ASSOCIATE-RQ x s r s′ w) ∙ e)
+
+pub accept-never-short : (x s : List ℕ) (r : Associate) (s′ : List ℕ) → ((i : ℕ) → getD x i 0 < 256) → Read ASSOCIATE-AC x s r s′ → 132 * 128 ≤ length s → r .refusal ≡ SHORT-OUTPUT → ⊥
+accept-never-short x s r s′ b w h e = answer-room x b (length s) h (sym (refusal-is ASSOCIATE-AC x s r s′ w) ∙ e)
