@@ -53,7 +53,8 @@ static Bytes stream()
 // Receives s in pieces of n bytes: the PDUs that were shown.
 static size_t receive(const Bytes &s, size_t n, uint8_t *gather)
 {
-    struct feo_assoc a = { 6, 0, 0, 0, 0, 0 };
+    struct feo_assoc a = FEO_FRESH;
+    a.state = FEO_STA_6;
     struct feo_answer r;
     uint8_t out[10];
     size_t shown = 0;
@@ -136,7 +137,9 @@ static Bytes sheet_of(unsigned contexts, unsigned transfers)
 // Writes the RQ of a proposal in Sta4: its length.
 static size_t request(const Bytes &sheet, uint8_t *out, size_t out_len)
 {
-    struct feo_assoc a = { 4, 0, 0, 0, 1, 0 };
+    struct feo_assoc a = FEO_FRESH;
+    a.state = FEO_STA_4;
+    a.requestor = 1;
     struct feo_answer r;
     feo_confirm(
         &a, bytes(TITLES), 16, bytes(TITLES) + 16, 16, bytes(APPLICATION), std::strlen(APPLICATION), sheet.data(), sheet.size(),

@@ -16,9 +16,14 @@
 
 #include <stddef.h>
 #include <stdint.h>
+#include <string.h>
 
 /* Room for any PDU that is received or sent. feo_receive asks it of its gather buffer. */
 #define FEO_BUFFER 16390
+
+/* A PDU's header (type, reserved byte, four length bytes), and the greatest PDU-length: what may stand behind it. */
+#define FEO_HEADER_LEN 6
+#define FEO_LONGEST 16384
 
 /* The called and the calling title in an A-ASSOCIATE-RQ, and its bytes that the accept response gives back. */
 #define FEO_CALLED_AT 10
@@ -27,27 +32,48 @@
 #define FEO_ECHOED_AT 10
 #define FEO_ECHOED_LEN 64
 
+/* A record of a sheet, its places, and the longest name; behind a name its field is zero. feo_put_record writes one. */
+#define FEO_RECORD_LEN 132
+#define FEO_RECORD_ID_AT 0
+#define FEO_RECORD_RESULT_AT 1
+#define FEO_RECORD_ABSTRACT_LEN_AT 2
+#define FEO_RECORD_TRANSFER_LEN_AT 3
+#define FEO_RECORD_ABSTRACT_AT 4
+#define FEO_RECORD_TRANSFER_AT 68
+#define FEO_NAME_MAX 64
+
+/* Room for the sheet of any A-ASSOCIATE-RQ (a valid one has at most 3,257 transfer syntaxes) and of any -AC (128 contexts). */
+#define FEO_PROPOSAL_ROOM (FEO_RECORD_LEN * 3257)
+#define FEO_ANSWER_ROOM (FEO_RECORD_LEN * 128)
+
+/* What stands in front of a fragment in a PDV item: four-byte length, ID, control byte. feo_put_pdv writes it. */
+#define FEO_PDV_HEADER_LEN 6
+
+/* The application context name of DICOM, for feo_confirm, and to be compared with that of a request. */
+#define FEO_APPLICATION_CONTEXT "1.2.840.10008.3.1.1.1"
+#define FEO_APPLICATION_CONTEXT_LEN 21
+
 /* The rows of Table 9-10. L: a local event; C: one whose contents have a call of their own; R: received. */
 enum feo_event_number {
     FEO_ASSOCIATE_REQUEST = 1,     /* L */
     FEO_TRANSPORT_CONFIRM = 2,     /* C feo_confirm */
-    FEO_ASSOCIATE_AC = 3,          /* R */
-    FEO_ASSOCIATE_RJ = 4,          /* R */
+    FEO_AC_RECEIVED = 3,           /* R */
+    FEO_RJ_RECEIVED = 4,           /* R */
     FEO_TRANSPORT_INDICATION = 5,  /* L */
-    FEO_ASSOCIATE_RQ = 6,          /* R */
+    FEO_RQ_RECEIVED = 6,           /* R */
     FEO_ACCEPT_RESPONSE = 7,       /* C feo_accept */
     FEO_REJECT_RESPONSE = 8,       /* C feo_reject */
     FEO_DATA_REQUEST = 9,          /* C feo_send */
-    FEO_DATA_TF = 10,              /* R */
+    FEO_DATA_RECEIVED = 10,        /* R */
     FEO_RELEASE_REQUEST = 11,      /* L */
-    FEO_RELEASE_RQ = 12,           /* R */
-    FEO_RELEASE_RP = 13,           /* R */
+    FEO_RELEASE_RQ_RECEIVED = 12,  /* R */
+    FEO_RELEASE_RP_RECEIVED = 13,  /* R */
     FEO_RELEASE_RESPONSE = 14,     /* L */
     FEO_ABORT_REQUEST = 15,        /* L */
-    FEO_ABORT_PDU = 16,            /* R */
+    FEO_ABORT_RECEIVED = 16,       /* R */
     FEO_TRANSPORT_CLOSED = 17,     /* L */
     FEO_ARTIM_EXPIRED = 18,        /* L */
-    FEO_INVALID_PDU = 19           /* R */
+    FEO_INVALID_RECEIVED = 19      /* R */
 };
 
 /* The actions of Tables 9-6 to 9-9. */
@@ -89,6 +115,65 @@ enum feo_refusal_number {
     FEO_NO_SUCH_PDU = 7     /* the bytes are no whole valid PDU of the kind that is read */
 };
 
+/* Results of a context in an answer (PS3.8 Table 9-18). */
+enum feo_context_result_number {
+    FEO_CONTEXT_ACCEPTED = 0,
+    FEO_CONTEXT_USER_REJECTION = 1,
+    FEO_CONTEXT_NO_REASON = 2,
+    FEO_CONTEXT_ABSTRACT_NOT_SUPPORTED = 3,
+    FEO_CONTEXT_TRANSFER_NOT_SUPPORTED = 4
+};
+
+/* What an A-ASSOCIATE-RJ says (PS3.8 Table 9-21): result, source, and the reasons of each source. */
+enum feo_rejected_result_number {
+    FEO_REJECTED_PERMANENT = 1,
+    FEO_REJECTED_TRANSIENT = 2
+};
+
+enum feo_rejected_source_number {
+    FEO_REJECTED_BY_USER = 1,
+    FEO_REJECTED_BY_ACSE = 2,         /* the upper layer, its ACSE related function */
+    FEO_REJECTED_BY_PRESENTATION = 3  /* the upper layer, its presentation related function */
+};
+
+enum feo_rejected_user_number {
+    FEO_REJECTED_USER_NO_REASON = 1,
+    FEO_REJECTED_USER_APPLICATION_CONTEXT = 2,  /* its name is not supported */
+    FEO_REJECTED_USER_CALLING_TITLE = 3,        /* not recognized */
+    FEO_REJECTED_USER_CALLED_TITLE = 7          /* not recognized */
+};
+
+enum feo_rejected_acse_number {
+    FEO_REJECTED_ACSE_NO_REASON = 1,
+    FEO_REJECTED_ACSE_VERSION = 2  /* of the protocol: not supported */
+};
+
+enum feo_rejected_presentation_number {
+    FEO_REJECTED_PRESENTATION_CONGESTION = 1,  /* temporary */
+    FEO_REJECTED_PRESENTATION_LOCAL_LIMIT = 2  /* exceeded */
+};
+
+/* What an A-ABORT says (PS3.8 Table 9-26): source, and the reasons of the provider; a user's is not tested. */
+enum feo_aborted_source_number {
+    FEO_ABORTED_BY_USER = 0,
+    FEO_ABORTED_BY_PROVIDER = 2  /* the upper layer */
+};
+
+enum feo_aborted_reason_number {
+    FEO_ABORTED_NOT_SPECIFIED = 0,
+    FEO_ABORTED_UNRECOGNIZED_PDU = 1,
+    FEO_ABORTED_UNEXPECTED_PDU = 2,
+    FEO_ABORTED_UNRECOGNIZED_PARAMETER = 4,
+    FEO_ABORTED_UNEXPECTED_PARAMETER = 5,
+    FEO_ABORTED_INVALID_PARAMETER = 6
+};
+
+/* The bits of a PDV's control byte. When sent, the others are zero; when received, they can be anything. */
+enum feo_pdv_bit {
+    FEO_PDV_COMMAND = 1,  /* the fragment is of a command; else of a data set */
+    FEO_PDV_LAST = 2      /* it is the last one of it */
+};
+
 /*
  * An association. The host reads it; only FEO_FRESH, feo_fresh and the calls write it. In a mark any non-zero byte is set. The
  * calls take its 16 bytes, numbers low byte first: the order and the widths of the fields are fixed.
@@ -103,8 +188,9 @@ struct feo_assoc {
 };
 
 /* Where a field has another place or width nothing compiles, in C99, C11 and C++ alike: an array of -1 elements. */
+extern const struct feo_assoc feo_assert_widths; /* never defined: only its fields' widths are asked for */
 #define FEO_FIELD(field, at, width) \
-    typedef char feo_assert_##field[offsetof(struct feo_assoc, field) == (at) && sizeof(((struct feo_assoc *)0)->field) == (width) ? 1 : -1]
+    typedef char feo_assert_##field[offsetof(struct feo_assoc, field) == (at) && sizeof feo_assert_widths.field == (width) ? 1 : -1]
 FEO_FIELD(state, 0, 1);
 FEO_FIELD(deaf, 1, 1);
 FEO_FIELD(artim, 2, 1);
@@ -192,7 +278,7 @@ static inline uint8_t *feo_room(uint8_t *p, size_t n)
 static inline uint8_t feo_told(struct feo_answer *r, uint8_t refusal, const size_t answer[4])
 {
     r->refusal = refusal;
-    r->action = (uint8_t)answer[0];
+    r->action = answer[0] & 255;
     r->used = answer[1];
     r->sent = answer[2];
     r->shown = answer[3];
@@ -350,6 +436,79 @@ static inline const char *feo_refusal_name(uint8_t refusal)
         "PDU too long", "broken record", "no whole valid PDU of this kind"
     };
     return refusal < 8 ? names[refusal] : "?";
+}
+
+/* A state's name in Tables 9-1 to 9-5: "?" for a number that is none. */
+static inline const char *feo_state_name(uint8_t state)
+{
+    static const char *const names[14] = {
+        "?",
+        "Sta1", "Sta2", "Sta3", "Sta4", "Sta5", "Sta6", "Sta7", "Sta8", "Sta9", "Sta10", "Sta11", "Sta12", "Sta13"
+    };
+    return state < 14 ? names[state] : "?";
+}
+
+/* An event in the words of its row in Table 9-10: "?" for a number that is none. */
+static inline const char *feo_event_name(uint8_t event)
+{
+    static const char *const names[20] = {
+        "?",
+        "A-ASSOCIATE request", "transport connection confirm", "A-ASSOCIATE-AC received", "A-ASSOCIATE-RJ received",
+        "transport connection indication", "A-ASSOCIATE-RQ received", "A-ASSOCIATE response (accept)", "A-ASSOCIATE response (reject)",
+        "P-DATA request", "P-DATA-TF received",
+        "A-RELEASE request", "A-RELEASE-RQ received", "A-RELEASE-RP received", "A-RELEASE response",
+        "A-ABORT request", "A-ABORT received", "transport connection closed", "ARTIM timer expired", "unrecognized or invalid PDU received"
+    };
+    return event < 20 ? names[event] : "?";
+}
+
+/*
+ * Writes one record of a sheet, FEO_RECORD_LEN bytes, for feo_confirm (result 0) or feo_accept (an empty abstract name). 4, and
+ * nothing is written, where a name is longer than FEO_NAME_MAX; all else about a record those two calls test.
+ */
+static inline uint8_t feo_put_record(
+    uint8_t *record, uint8_t id, uint8_t result, const void *abstract, size_t abstract_len, const void *transfer, size_t transfer_len)
+{
+    if (abstract_len > FEO_NAME_MAX || transfer_len > FEO_NAME_MAX)
+        return FEO_BAD_CONTENTS;
+    memset(record, 0, FEO_RECORD_LEN);
+    record[FEO_RECORD_ID_AT] = id;
+    record[FEO_RECORD_RESULT_AT] = result;
+    record[FEO_RECORD_ABSTRACT_LEN_AT] = abstract_len & 0xFF;
+    record[FEO_RECORD_TRANSFER_LEN_AT] = transfer_len & 0xFF;
+    if (abstract_len != 0)
+        memcpy(record + FEO_RECORD_ABSTRACT_AT, abstract, abstract_len);
+    if (transfer_len != 0)
+        memcpy(record + FEO_RECORD_TRANSFER_AT, transfer, transfer_len);
+    return FEO_NOT_REFUSED;
+}
+
+/*
+ * Writes the FEO_PDV_HEADER_LEN bytes that stand in front of a fragment of this length in the items of feo_send. 5, and nothing is
+ * written, where no PDU has room for the fragment; the ID and the control byte feo_send tests.
+ */
+static inline uint8_t feo_put_pdv(uint8_t *at, uint8_t id, uint8_t control, size_t fragment_len)
+{
+    size_t length = fragment_len + 2;  /* of ID, control byte and fragment */
+    if (fragment_len > FEO_LONGEST - FEO_PDV_HEADER_LEN)
+        return FEO_LONG_PDU;
+    at[0] = 0;
+    at[1] = 0;
+    at[2] = length >> 8 & 0xFF;
+    at[3] = length & 0xFF;
+    at[4] = id;
+    at[5] = control;
+    return FEO_NOT_REFUSED;
+}
+
+/*
+ * The longest fragment that feo_send takes now, as the only PDV of its items: cut a message by it. 0 where the peer leaves no room
+ * for a byte of one (a->peer_max 1 to 6; with 6 an empty fragment can be sent).
+ */
+static inline size_t feo_fragment_max(const struct feo_assoc *a)
+{
+    size_t longest = a->peer_max != 0 && a->peer_max < FEO_LONGEST ? a->peer_max : FEO_LONGEST;
+    return longest > FEO_PDV_HEADER_LEN ? longest - FEO_PDV_HEADER_LEN : 0;
 }
 
 #endif

@@ -74,6 +74,9 @@ static inline void ten(struct bytes *pdu, unsigned type, unsigned a, unsigned b,
 #define ECHO_CLASS "1.2.840.10008.1.1"
 #define IMPLICIT "1.2.840.10008.1.2"
 
+/* A name of 64 bytes. */
+#define SIXTY_FOUR "1.234567890123456789012345678901234567890123456789012345678901.9"
+
 /* Version, titles and reserved bytes of an RQ or AC. */
 static inline void add_fixed(struct bytes *b, unsigned version)
 {

@@ -25,25 +25,25 @@ static void must(int holds, const char *what)
 /* Accepts the request that is shown. */
 static void answer(struct line *l, size_t shown)
 {
-    static uint8_t sheet[132 * 3257], answers[132 * 128];
+    static uint8_t sheet[FEO_PROPOSAL_ROOM], answers[FEO_ANSWER_ROOM];
     struct feo_associate f;
     struct feo_answer r;
     size_t i, n = 0;
     must(feo_read_request(l->gather, shown, sheet, sizeof sheet, &f) == 0, "the request is read");
     for (i = 0; i < f.records; i++) {
-        const uint8_t *from = sheet + i * 132;
-        uint8_t *to = answers + n * 132;
-        if (n != 0 && to[-132] == from[0])
+        const uint8_t *from = sheet + i * FEO_RECORD_LEN;
+        uint8_t *to = answers + n * FEO_RECORD_LEN;
+        if (n != 0 && to[FEO_RECORD_ID_AT - FEO_RECORD_LEN] == from[FEO_RECORD_ID_AT])
             continue;
-        memset(to, 0, 132);
-        to[0] = from[0];
-        to[3] = from[3];
-        memcpy(to + 68, from + 68, 64);
+        must(
+            feo_put_record(
+                to, from[FEO_RECORD_ID_AT], FEO_CONTEXT_ACCEPTED, NULL, 0, from + FEO_RECORD_TRANSFER_AT, from[FEO_RECORD_TRANSFER_LEN_AT]) == 0,
+            "an answer is written");
         n++;
     }
     must(
         feo_accept(
-            &l->a, l->gather + FEO_ECHOED_AT, FEO_ECHOED_LEN, l->gather + f.application_at, f.application_len, answers, n * 132,
+            &l->a, l->gather + FEO_ECHOED_AT, FEO_ECHOED_LEN, l->gather + f.application_at, f.application_len, answers, n * FEO_RECORD_LEN,
             l->gather, FEO_BUFFER, l->out, FEO_BUFFER, &r) == 0,
         "the request is accepted");
     act(l, &r);

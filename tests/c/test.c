@@ -258,14 +258,73 @@ static void header(void)
     CHECK(a.state == 1 && a.gathered == 0 && a.deaf == 0 && a.artim == 0 && a.requestor == 0 && a.peer_max == 0);
     CHECK(fresh.state == 1 && fresh.gathered == 0 && fresh.deaf == 0 && fresh.artim == 0 && fresh.requestor == 0 && fresh.peer_max == 0);
     CHECK(FEO_BUFFER == 16390 && FEO_CALLED_AT == 10 && FEO_CALLING_AT == 26 && FEO_TITLE_LEN == 16);
-    CHECK(FEO_ECHOED_AT == 10 && FEO_ECHOED_LEN == 64);
+    CHECK(FEO_ECHOED_AT == 10 && FEO_ECHOED_LEN == 64 && FEO_HEADER_LEN == 6 && FEO_LONGEST == 16384 && FEO_PDV_HEADER_LEN == 6);
+    CHECK(FEO_RECORD_LEN == 132 && FEO_RECORD_ID_AT == 0 && FEO_RECORD_RESULT_AT == 1 && FEO_RECORD_ABSTRACT_LEN_AT == 2);
+    CHECK(FEO_RECORD_TRANSFER_LEN_AT == 3 && FEO_RECORD_ABSTRACT_AT == 4 && FEO_RECORD_TRANSFER_AT == 68 && FEO_NAME_MAX == 64);
+    CHECK(FEO_PROPOSAL_ROOM == 429924 && FEO_ANSWER_ROOM == 16896);
+    CHECK(FEO_PROPOSAL_ROOM / FEO_PROPOSAL_ROOM == 1 && FEO_ANSWER_ROOM / FEO_ANSWER_ROOM == 1);
+    CHECK(strcmp(FEO_APPLICATION_CONTEXT, APPLICATION) == 0 && FEO_APPLICATION_CONTEXT_LEN == strlen(APPLICATION));
+    CHECK(FEO_CONTEXT_ACCEPTED == 0 && FEO_CONTEXT_USER_REJECTION == 1 && FEO_CONTEXT_NO_REASON == 2);
+    CHECK(FEO_CONTEXT_ABSTRACT_NOT_SUPPORTED == 3 && FEO_CONTEXT_TRANSFER_NOT_SUPPORTED == 4);
+    CHECK(FEO_REJECTED_PERMANENT == 1 && FEO_REJECTED_TRANSIENT == 2);
+    CHECK(FEO_REJECTED_BY_USER == 1 && FEO_REJECTED_BY_ACSE == 2 && FEO_REJECTED_BY_PRESENTATION == 3);
+    CHECK(FEO_REJECTED_USER_NO_REASON == 1 && FEO_REJECTED_USER_APPLICATION_CONTEXT == 2);
+    CHECK(FEO_REJECTED_USER_CALLING_TITLE == 3 && FEO_REJECTED_USER_CALLED_TITLE == 7);
+    CHECK(FEO_REJECTED_ACSE_NO_REASON == 1 && FEO_REJECTED_ACSE_VERSION == 2);
+    CHECK(FEO_REJECTED_PRESENTATION_CONGESTION == 1 && FEO_REJECTED_PRESENTATION_LOCAL_LIMIT == 2);
+    CHECK(FEO_ABORTED_BY_USER == 0 && FEO_ABORTED_BY_PROVIDER == 2);
+    CHECK(FEO_ABORTED_NOT_SPECIFIED == 0 && FEO_ABORTED_UNRECOGNIZED_PDU == 1 && FEO_ABORTED_UNEXPECTED_PDU == 2);
+    CHECK(FEO_ABORTED_UNRECOGNIZED_PARAMETER == 4 && FEO_ABORTED_UNEXPECTED_PARAMETER == 5 && FEO_ABORTED_INVALID_PARAMETER == 6);
+    CHECK(FEO_PDV_COMMAND == 1 && FEO_PDV_LAST == 2);
     CHECK(FEO_ASSOCIATE_REQUEST == 1 && FEO_TRANSPORT_INDICATION == 5 && FEO_RELEASE_REQUEST == 11 && FEO_RELEASE_RESPONSE == 14);
-    CHECK(FEO_ABORT_REQUEST == 15 && FEO_TRANSPORT_CLOSED == 17 && FEO_ARTIM_EXPIRED == 18 && FEO_INVALID_PDU == 19);
+    CHECK(FEO_ABORT_REQUEST == 15 && FEO_TRANSPORT_CLOSED == 17 && FEO_ARTIM_EXPIRED == 18 && FEO_INVALID_RECEIVED == 19);
+    CHECK(FEO_AC_RECEIVED == 3 && FEO_RJ_RECEIVED == 4 && FEO_RQ_RECEIVED == 6 && FEO_DATA_RECEIVED == 10);
+    CHECK(FEO_RELEASE_RQ_RECEIVED == 12 && FEO_RELEASE_RP_RECEIVED == 13 && FEO_ABORT_RECEIVED == 16);
     CHECK(FEO_AE_8 == 8 && FEO_DT_1 == 9 && FEO_AR_1 == 11 && FEO_AR_10 == 20 && FEO_AA_1 == 21 && FEO_AA_8 == 28);
     CHECK(strcmp(feo_action_name(FEO_AE_6), "AE-6") == 0 && strcmp(feo_action_name(FEO_AR_10), "AR-10") == 0);
     CHECK(strcmp(feo_action_name(FEO_AA_8), "AA-8") == 0 && strcmp(feo_action_name(0), "") == 0 && strcmp(feo_action_name(29), "?") == 0);
     CHECK(strcmp(feo_refusal_name(1), "blank cell of Table 9-10") == 0 && strcmp(feo_refusal_name(7), "no whole valid PDU of this kind") == 0);
     CHECK(strcmp(feo_refusal_name(0), "") == 0 && strcmp(feo_refusal_name(8), "?") == 0);
+}
+
+/* The names, of all numbers. */
+static void names(void)
+{
+    static const struct {
+        unsigned number;
+        const char *name;
+    } rows[] = {
+        { FEO_ASSOCIATE_REQUEST, "A-ASSOCIATE request" },
+        { FEO_TRANSPORT_CONFIRM, "transport connection confirm" },
+        { FEO_AC_RECEIVED, "A-ASSOCIATE-AC received" },
+        { FEO_RJ_RECEIVED, "A-ASSOCIATE-RJ received" },
+        { FEO_TRANSPORT_INDICATION, "transport connection indication" },
+        { FEO_RQ_RECEIVED, "A-ASSOCIATE-RQ received" },
+        { FEO_ACCEPT_RESPONSE, "A-ASSOCIATE response (accept)" },
+        { FEO_REJECT_RESPONSE, "A-ASSOCIATE response (reject)" },
+        { FEO_DATA_REQUEST, "P-DATA request" },
+        { FEO_DATA_RECEIVED, "P-DATA-TF received" },
+        { FEO_RELEASE_REQUEST, "A-RELEASE request" },
+        { FEO_RELEASE_RQ_RECEIVED, "A-RELEASE-RQ received" },
+        { FEO_RELEASE_RP_RECEIVED, "A-RELEASE-RP received" },
+        { FEO_RELEASE_RESPONSE, "A-RELEASE response" },
+        { FEO_ABORT_REQUEST, "A-ABORT request" },
+        { FEO_ABORT_RECEIVED, "A-ABORT received" },
+        { FEO_TRANSPORT_CLOSED, "transport connection closed" },
+        { FEO_ARTIM_EXPIRED, "ARTIM timer expired" },
+        { FEO_INVALID_RECEIVED, "unrecognized or invalid PDU received" }
+    };
+    char state[16];
+    unsigned n;
+    CHECK(sizeof rows / sizeof *rows == 19);
+    for (n = 0; n < 256; n++) {
+        sprintf(state, "Sta%u", n);
+        CHECK(strcmp(feo_state_name((uint8_t)n), n >= FEO_STA_1 && n <= FEO_STA_13 ? state : "?") == 0);
+        CHECK(n < 1 || n > 19 || rows[n - 1].number == n);
+        CHECK(strcmp(feo_event_name((uint8_t)n), n >= 1 && n <= 19 ? rows[n - 1].name : "?") == 0);
+        CHECK((strcmp(feo_action_name((uint8_t)n), "?") == 0) == (n > FEO_AA_8));
+        CHECK((strcmp(feo_refusal_name((uint8_t)n), "?") == 0) == (n > FEO_NO_SUCH_PDU));
+    }
 }
 
 /* Cases 1 and 2: Sta6, an unknown type of length 16,384 at byte 16,390; of length 16,385 at byte 6, deaf. */
@@ -298,7 +357,7 @@ static void cases_1_2(void)
 static void case_3(void)
 {
     static struct bytes rq, ac;
-    static uint8_t sheet[132 + 64];
+    static uint8_t sheet[FEO_RECORD_LEN + 64];
     struct feo_associate f;
     good_contents();
     request(&rq, 1, APPLICATION, ECHO_CLASS, IMPLICIT);
@@ -313,8 +372,8 @@ static void case_3(void)
     given(3);
     LOCAL(accept_it(FEO_BUFFER, FEO_BUFFER), FEO_AE_7, 6, ac.at, 140);
 
-    CHECK(feo_read_request(rq.at, rq.n, sheet, 132, &f) == 0 && f.records == 1 && memcmp(sheet, proposal.at, 132) == 0);
-    CHECK(feo_read_accept(ac.at, ac.n, sheet, 132, &f) == 0 && f.records == 1 && memcmp(sheet, answers.at, 132) == 0);
+    CHECK(feo_read_request(rq.at, rq.n, sheet, FEO_RECORD_LEN, &f) == 0 && f.records == 1 && memcmp(sheet, proposal.at, FEO_RECORD_LEN) == 0);
+    CHECK(feo_read_accept(ac.at, ac.n, sheet, FEO_RECORD_LEN, &f) == 0 && f.records == 1 && memcmp(sheet, answers.at, FEO_RECORD_LEN) == 0);
 }
 
 /* Case 4, and the title check's refusals. */
@@ -398,25 +457,24 @@ static void cases_5_to_9(void)
 /* Case 10: names, each tried in the three places of an RQ. */
 static void case_10(void)
 {
-    static const char sixty_four[] = "1.234567890123456789012345678901234567890123456789012345678901.9";
     static const char sixty_five[] = "1.2345678901234567890123456789012345678901234567890123456789012.9";
     static const struct {
         const char *name;
         int valid;
-    } names[] = { { "1.0", 1 }, { "0", 1 }, { "1.02", 0 }, { "1.2.", 0 }, { "", 0 }, { sixty_four, 1 }, { sixty_five, 0 }, { ".1", 0 }, { "1..2", 0 }, { "1.a", 0 } };
+    } names[] = { { "1.0", 1 }, { "0", 1 }, { "1.02", 0 }, { "1.2.", 0 }, { "", 0 }, { SIXTY_FOUR, 1 }, { sixty_five, 0 }, { ".1", 0 }, { "1..2", 0 }, { "1.a", 0 } };
     static struct bytes pdu;
-    static uint8_t sheet[132];
+    static uint8_t sheet[FEO_RECORD_LEN];
     struct feo_associate f;
     size_t i;
-    CHECK(sizeof sixty_four == 65 && sizeof sixty_five == 66);
+    CHECK(sizeof SIXTY_FOUR == 65 && sizeof sixty_five == 66);
     for (i = 0; i < sizeof names / sizeof *names; i++) {
         unsigned refusal = names[i].valid ? 0 : 7;
         request(&pdu, 1, names[i].name, ECHO_CLASS, IMPLICIT);
-        CHECK(feo_read_request(pdu.at, pdu.n, sheet, 132, &f) == refusal);
+        CHECK(feo_read_request(pdu.at, pdu.n, sheet, FEO_RECORD_LEN, &f) == refusal);
         request(&pdu, 1, APPLICATION, names[i].name, IMPLICIT);
-        CHECK(feo_read_request(pdu.at, pdu.n, sheet, 132, &f) == refusal);
+        CHECK(feo_read_request(pdu.at, pdu.n, sheet, FEO_RECORD_LEN, &f) == refusal);
         request(&pdu, 1, APPLICATION, ECHO_CLASS, names[i].name);
-        CHECK(feo_read_request(pdu.at, pdu.n, sheet, 132, &f) == refusal);
+        CHECK(feo_read_request(pdu.at, pdu.n, sheet, FEO_RECORD_LEN, &f) == refusal);
         given(2);
         if (names[i].valid)
             HEARD(pdu, FEO_AE_6, 3, 0, 0, pdu.n);
@@ -450,11 +508,9 @@ static void local_events(void)
                 size_t n = action == FEO_AR_1 || action == FEO_AR_4 || action == FEO_AR_9 || action == FEO_AA_1 ? 10 : 0;
                 given(state);
                 w.a.requestor = state == 1 ? 0 : (uint8_t)requestor;
-                if (number == 2 || number == 7 || number == 8 || number == 9)
+                if (number == FEO_TRANSPORT_CONFIRM || number == FEO_ACCEPT_RESPONSE || number == FEO_REJECT_RESPONSE || number == FEO_DATA_REQUEST)
                     REFUSED(event(number, 0, 0), action != 0 ? 4 : 1);
-                else if (number == 3 || number == 4 || number == 6 || number == 10 || number == 12 || number == 13 || number == 16 || number == 19)
-                    REFUSED(event(number, 0, 0), 1);
-                else if (action == 0)
+                else if (action == 0 || strstr(feo_event_name((uint8_t)number), "received") != NULL)
                     REFUSED(event(number, 0, 0), 1);
                 else {
                     if (n != 0)
@@ -476,7 +532,10 @@ static int shows(unsigned action)
 static void received(void)
 {
     static struct bytes pdus[9];
-    static const uint8_t rows[9] = { 6, 3, 4, 10, 12, 13, 16, 19, 19 };
+    static const uint8_t rows[9] = {
+        FEO_RQ_RECEIVED, FEO_AC_RECEIVED, FEO_RJ_RECEIVED, FEO_DATA_RECEIVED, FEO_RELEASE_RQ_RECEIVED, FEO_RELEASE_RP_RECEIVED,
+        FEO_ABORT_RECEIVED, FEO_INVALID_RECEIVED, FEO_INVALID_RECEIVED
+    };
     unsigned state, requestor, k;
     request(&pdus[0], 1, APPLICATION, ECHO_CLASS, IMPLICIT);
     acceptance(&pdus[1], 1, 0, 5000);
@@ -589,12 +648,12 @@ static void local_refusals(void)
         unsigned number, state, action, next;
         size_t sent;
     } calls[] = {
-        { release, 11, 6, FEO_AR_1, 7, 10 },
-        { accept_it, 7, 3, FEO_AE_7, 6, 140 },
-        { reject, 8, 3, FEO_AE_8, 13, 10 },
-        { send_it, 9, 6, FEO_DT_1, 6, 14 },
-        { send_it, 9, 8, FEO_AR_7, 8, 14 },
-        { confirm, 2, 4, FEO_AE_2, 5, 161 }
+        { release, FEO_RELEASE_REQUEST, 6, FEO_AR_1, 7, 10 },
+        { accept_it, FEO_ACCEPT_RESPONSE, 3, FEO_AE_7, 6, 140 },
+        { reject, FEO_REJECT_RESPONSE, 3, FEO_AE_8, 13, 10 },
+        { send_it, FEO_DATA_REQUEST, 6, FEO_DT_1, 6, 14 },
+        { send_it, FEO_DATA_REQUEST, 8, FEO_AR_7, 8, 14 },
+        { confirm, FEO_TRANSPORT_CONFIRM, 4, FEO_AE_2, 5, 161 }
     };
     size_t i;
     unsigned state;
@@ -710,11 +769,11 @@ static void contents(void)
     /* 128 contexts of 64-byte names are too long for one PDU; with one bad record at the end 4 comes first */
     proposal.n = 0;
     for (i = 0; i < 128; i++)
-        add_record(&proposal, 2 * i + 1, 0, "1.234567890123456789012345678901234567890123456789012345678901.9", "1.234567890123456789012345678901234567890123456789012345678901.9");
+        add_record(&proposal, 2 * i + 1, 0, SIXTY_FOUR, SIXTY_FOUR);
     bad_confirm(5);
     proposal.n = 0;
     for (i = 0; i < 128; i++)
-        add_record(&proposal, 2 * i + 1, 0, "1.234567890123456789012345678901234567890123456789012345678901.9", "1.234567890123456789012345678901234567890123456789012345678901.9");
+        add_record(&proposal, 2 * i + 1, 0, SIXTY_FOUR, SIXTY_FOUR);
     add_record(&proposal, 2, 0, ECHO_CLASS, IMPLICIT);
     bad_confirm(4);
 }
@@ -722,15 +781,15 @@ static void contents(void)
 /* 40,000 good records get 5, with one bad last record 4. */
 static void long_sheet(void)
 {
-    size_t n = (size_t)40000 * 132, i;
+    size_t n = (size_t)40000 * FEO_RECORD_LEN, i;
     uint8_t *sheet = (uint8_t *)malloc(n);
     CHECK(sheet != NULL);
     good_contents();
     for (i = 0; i < 40000; i++)
-        memcpy(sheet + i * 132, proposal.at, 132);
+        memcpy(sheet + i * FEO_RECORD_LEN, proposal.at, FEO_RECORD_LEN);
     given(4);
     REFUSED(feo_confirm(&w.a, called.at, 16, calling.at, 16, application.at, application.n, sheet, n, NULL, 0, w.out, 0, &w.r), 5);
-    sheet[n - 132] = 4;
+    sheet[n - FEO_RECORD_LEN + FEO_RECORD_ID_AT] = 4;
     REFUSED(feo_confirm(&w.a, called.at, 16, calling.at, 16, application.at, application.n, sheet, n, NULL, 0, w.out, 0, &w.r), 4);
     free(sheet);
 }
@@ -759,7 +818,7 @@ static void rejects(void)
 /* PDV items, the peer maximum, and the greatest PDU. */
 static void sending(void)
 {
-    static const uint8_t fragment[16384] = { 1 };
+    static const uint8_t fragment[FEO_LONGEST] = { 1 };
     static struct bytes pdu;
     uint32_t peer;
     items.n = 0;
@@ -786,13 +845,13 @@ static void sending(void)
     /* two items of 16,384 in all, then one byte more */
     items.n = 0;
     add_pdv(&items, 1, 1, "ab", 2);
-    add_pdv(&items, 3, 2, fragment, 16384 - 8 - 6);
+    add_pdv(&items, 3, 2, fragment, FEO_LONGEST - 8 - FEO_PDV_HEADER_LEN);
     whole(&pdu, 4, &items);
     CHECK(pdu.n == FEO_BUFFER);
     LOCAL(send_it(0, FEO_BUFFER), FEO_DT_1, 6, pdu.at, pdu.n);
     REFUSED(send_it(0, FEO_BUFFER - 1), 2);
     items.n = 0;
-    add_pdv(&items, 1, 0, fragment, 16384 - 6 + 1);
+    add_pdv(&items, 1, 0, fragment, FEO_LONGEST - FEO_PDV_HEADER_LEN + 1);
     REFUSED(send_it(0, FEO_BUFFER), 5);
     items.at[4] = 2;
     REFUSED(send_it(0, FEO_BUFFER), 4);
@@ -825,7 +884,7 @@ static void unread(int line, uint8_t got, unsigned refusal, const struct feo_ass
 static void reading(void)
 {
     static struct bytes b, context, pdu, sheet;
-    static uint8_t room[132 * 5];
+    static uint8_t room[FEO_RECORD_LEN * 5];
     struct feo_associate f;
     size_t n;
     uint8_t x = 9, y = 9, z = 9;
@@ -853,7 +912,7 @@ static void reading(void)
     add_record(&sheet, 5, 0, ECHO_CLASS, "1.2");
     add_record(&sheet, 3, 0, "0", IMPLICIT);
     memset(room, 0xEE, sizeof room);
-    for (n = 0; n < 3 * 132; n += 131) {
+    for (n = 0; n < 3 * FEO_RECORD_LEN; n += FEO_RECORD_LEN - 1) {
         memset(&f, 0xEE, sizeof f);
         unread(__LINE__, feo_read_request(pdu.at, pdu.n, room, n, &f), 2, &f, room, sizeof room);
     }
@@ -868,7 +927,7 @@ static void reading(void)
     CHECK(feo_read_request(pdu.at, pdu.n, room, sizeof room, &f) == 0);
     CHECK(f.version == 0xFF01 && f.maximum == 0xFFFFFFFFU && f.records == 3);
     CHECK(f.application_len == strlen(APPLICATION) && memcmp(pdu.at + f.application_at, APPLICATION, f.application_len) == 0);
-    CHECK(memcmp(room, sheet.at, 3 * 132) == 0 && room[3 * 132] == 0xEE && room[5 * 132 - 1] == 0xEE);
+    CHECK(memcmp(room, sheet.at, 3 * FEO_RECORD_LEN) == 0 && room[3 * FEO_RECORD_LEN] == 0xEE && room[5 * FEO_RECORD_LEN - 1] == 0xEE);
     CHECK(memcmp(pdu.at + FEO_CALLED_AT, "STORE-EQUINE    ", FEO_TITLE_LEN) == 0);
     CHECK(memcmp(pdu.at + FEO_CALLING_AT, "NIGHT-SCANNER   ", FEO_TITLE_LEN) == 0);
     /* the greatest sheet: 3,257 records */
@@ -884,28 +943,28 @@ static void reading(void)
     whole(&pdu, 1, &b);
     CHECK(pdu.n <= FEO_BUFFER && pdu.n + 5 > FEO_BUFFER);
     {
-        uint8_t *great = (uint8_t *)malloc((size_t)3257 * 132);
+        uint8_t *great = (uint8_t *)malloc(FEO_PROPOSAL_ROOM);
         CHECK(great != NULL);
-        CHECK(feo_read_request(pdu.at, pdu.n, great, (size_t)3257 * 132 - 1, &f) == 2 && f.records == 0);
-        CHECK(feo_read_request(pdu.at, pdu.n, great, (size_t)3257 * 132, &f) == 0 && f.records == 3257 && f.maximum == 0);
-        CHECK(great[3256 * 132] == 1 && great[3256 * 132 + 68] == '0');
+        CHECK(feo_read_request(pdu.at, pdu.n, great, FEO_PROPOSAL_ROOM - 1, &f) == 2 && f.records == 0);
+        CHECK(feo_read_request(pdu.at, pdu.n, great, FEO_PROPOSAL_ROOM, &f) == 0 && f.records == 3257 && f.maximum == 0);
+        CHECK(great[FEO_PROPOSAL_ROOM - FEO_RECORD_LEN] == 1 && great[FEO_PROPOSAL_ROOM - FEO_RECORD_LEN + FEO_RECORD_TRANSFER_AT] == '0');
         free(great);
     }
     /* an AC */
     acceptance(&pdu, 1, 4, 7);
     memset(room, 0xEE, sizeof room);
     memset(&f, 0xEE, sizeof f);
-    unread(__LINE__, feo_read_accept(pdu.at, pdu.n, room, 131, &f), 2, &f, room, sizeof room);
+    unread(__LINE__, feo_read_accept(pdu.at, pdu.n, room, FEO_RECORD_LEN - 1, &f), 2, &f, room, sizeof room);
     memset(&f, 0xEE, sizeof f);
-    unread(__LINE__, feo_read_request(pdu.at, pdu.n, room, 132, &f), 7, &f, room, sizeof room);
-    CHECK(feo_read_accept(pdu.at, pdu.n, room, 132, &f) == 0 && f.version == 1 && f.maximum == 7 && f.records == 1);
+    unread(__LINE__, feo_read_request(pdu.at, pdu.n, room, FEO_RECORD_LEN, &f), 7, &f, room, sizeof room);
+    CHECK(feo_read_accept(pdu.at, pdu.n, room, FEO_RECORD_LEN, &f) == 0 && f.version == 1 && f.maximum == 7 && f.records == 1);
     CHECK(memcmp(pdu.at + f.application_at, APPLICATION, f.application_len) == 0 && f.application_len == strlen(APPLICATION));
     sheet.n = 0;
     add_record(&sheet, 1, 4, "", IMPLICIT);
-    CHECK(memcmp(room, sheet.at, 132) == 0 && room[132] == 0xEE);
+    CHECK(memcmp(room, sheet.at, FEO_RECORD_LEN) == 0 && room[FEO_RECORD_LEN] == 0xEE);
     acceptance(&pdu, 2, 0, 7);
     memset(&f, 0xEE, sizeof f);
-    CHECK(feo_read_accept(pdu.at, pdu.n, room, 132, &f) == 7 && f.maximum == 0);
+    CHECK(feo_read_accept(pdu.at, pdu.n, room, FEO_RECORD_LEN, &f) == 7 && f.maximum == 0);
     /* an RJ, an ABORT */
     ten(&pdu, 3, 0xFF, 2, 1, 7);
     CHECK(feo_read_reject(pdu.at, pdu.n, &x, &y, &z) == 0 && x == 2 && y == 1 && z == 7);
@@ -934,10 +993,260 @@ static void reading(void)
     CHECK(feo_read_data(NULL, 0, 0, &x, &y, &start, &length) == 7);
 }
 
+/* What a call is to do to a part of the world's out: `want` is what was before but for these bytes. */
+static void put(int line, uint8_t got, unsigned refusal, const void *bytes, size_t n)
+{
+    if (n != 0)
+        memcpy(want.out + 64, bytes, n);
+    check(line, got == refusal, "the refusal that is returned");
+    check(line, memcmp(&w, &want, sizeof w) == 0, "the world, all of it");
+}
+
+#define PUT(call, bytes, count) (before(), put(__LINE__, (call), 0, (bytes), (count)))
+#define NOT_PUT(call, refusal) (before(), put(__LINE__, (call), (refusal), NULL, 0))
+
+/* A record of a sheet: each length of each name, any ID and result; then in a proposal and in an answer. */
+static void records(void)
+{
+    static const size_t too_long[] = { 65, 66, 255, 256, 257, 256 + 64, 65536, 65536 + 17, ((size_t)1 << 32) + 17, (size_t)-1 };
+    static const uint8_t results[] = {
+        FEO_CONTEXT_ACCEPTED, FEO_CONTEXT_USER_REJECTION, FEO_CONTEXT_NO_REASON, FEO_CONTEXT_ABSTRACT_NOT_SUPPORTED, FEO_CONTEXT_TRANSFER_NOT_SUPPORTED
+    };
+    static struct bytes record, pdu, b, context;
+    static uint8_t sheet[FEO_ANSWER_ROOM];
+    struct feo_associate f;
+    uint8_t name[64];
+    size_t i, k;
+    unsigned id;
+    given(6);
+    for (i = 0; i < 64; i++)
+        name[i] = (uint8_t)(255 - i);
+    for (i = 0; i <= 64; i++)
+        for (k = 0; k <= 64; k++) {
+            record.n = 0;
+            add_byte(&record, 7);
+            add_byte(&record, 9);
+            add_byte(&record, (unsigned)i);
+            add_byte(&record, (unsigned)k);
+            memset(record.at + 4, 0, 128);
+            memcpy(record.at + 4, name, i);
+            memcpy(record.at + 68, name + 64 - k, k);
+            PUT(feo_put_record(w.out + 64, 7, 9, name, i, name + 64 - k, k), record.at, 132);
+        }
+    for (i = 0; i < 256; i++) {
+        memset(record.at, 0, 132);
+        record.at[0] = (uint8_t)i;
+        record.at[1] = (uint8_t)(255 - i);
+        PUT(feo_put_record(w.out + 64, (uint8_t)i, (uint8_t)(255 - i), NULL, 0, NULL, 0), record.at, 132);
+    }
+    for (i = 0; i < sizeof too_long / sizeof *too_long; i++) {
+        NOT_PUT(feo_put_record(w.out + 64, 1, 0, name, too_long[i], name, 3), 4);
+        NOT_PUT(feo_put_record(w.out + 64, 1, 0, name, 3, name, too_long[i]), 4);
+        NOT_PUT(feo_put_record(w.out + 64, 1, 0, name, too_long[i], name, too_long[i]), 4);
+    }
+    /* a proposal */
+    good_contents();
+    application.n = proposal.n = 0;
+    add(&application, FEO_APPLICATION_CONTEXT, FEO_APPLICATION_CONTEXT_LEN);
+    CHECK(feo_put_record(proposal.at, 1, 0, SIXTY_FOUR, 64, SIXTY_FOUR, 64) == 0);
+    proposal.n = FEO_RECORD_LEN;
+    request(&pdu, 1, APPLICATION, SIXTY_FOUR, SIXTY_FOUR);
+    given(4);
+    w.a.requestor = 1;
+    LOCAL(confirm(0, FEO_BUFFER), FEO_AE_2, 5, pdu.at, pdu.n);
+    CHECK(feo_put_record(proposal.at, 1, 0, ECHO_CLASS, strlen(ECHO_CLASS), IMPLICIT, strlen(IMPLICIT)) == 0);
+    request(&pdu, 1, APPLICATION, ECHO_CLASS, IMPLICIT);
+    given(4);
+    w.a.requestor = 1;
+    LOCAL(confirm(0, FEO_BUFFER), FEO_AE_2, 5, pdu.at, pdu.n);
+    /* what is left to feo_confirm: an even ID, a result, a name that is none */
+    given(4);
+    CHECK(feo_put_record(proposal.at, 2, 0, ECHO_CLASS, strlen(ECHO_CLASS), IMPLICIT, strlen(IMPLICIT)) == 0);
+    REFUSED(confirm(0, FEO_BUFFER), 4);
+    CHECK(feo_put_record(proposal.at, 1, 3, ECHO_CLASS, strlen(ECHO_CLASS), IMPLICIT, strlen(IMPLICIT)) == 0);
+    REFUSED(confirm(0, FEO_BUFFER), 4);
+    CHECK(feo_put_record(proposal.at, 1, 0, "1.", 2, IMPLICIT, strlen(IMPLICIT)) == 0);
+    REFUSED(confirm(0, FEO_BUFFER), 4);
+    /* an answer, by each result */
+    for (i = 0; i < sizeof results; i++) {
+        answers.n = FEO_RECORD_LEN;
+        CHECK(feo_put_record(answers.at, 1, results[i], NULL, 0, IMPLICIT, strlen(IMPLICIT)) == 0);
+        acceptance(&pdu, 1, (unsigned)i, 16384);
+        memcpy(pdu.at + 10, echoed.at, 64);
+        given(3);
+        LOCAL(accept_it(0, FEO_BUFFER), FEO_AE_7, 6, pdu.at, pdu.n);
+    }
+    /* the greatest answer: 128 contexts */
+    b.n = answers.n = 0;
+    add_two(&b, 1);
+    add_two(&b, 0);
+    add(&b, echoed.at, 64);
+    add_name(&b, 0x10, APPLICATION);
+    for (id = 1; id < 256; id += 2) {
+        CHECK(feo_put_record(answers.at + answers.n, (uint8_t)id, FEO_CONTEXT_ACCEPTED, NULL, 0, SIXTY_FOUR, 64) == 0);
+        answers.n += FEO_RECORD_LEN;
+        context.n = 0;
+        add_four(&context, (size_t)id << 24);
+        add_name(&context, 0x40, SIXTY_FOUR);
+        add_item(&b, 0x21, context.at, context.n);
+    }
+    CHECK(answers.n == FEO_ANSWER_ROOM);
+    add_user(&b, 16384);
+    whole(&pdu, 2, &b);
+    given(3);
+    LOCAL(accept_it(0, FEO_BUFFER), FEO_AE_7, 6, pdu.at, pdu.n);
+    CHECK(feo_read_accept(pdu.at, pdu.n, sheet, FEO_ANSWER_ROOM - 1, &f) == 2 && f.records == 0);
+    CHECK(feo_read_accept(pdu.at, pdu.n, sheet, FEO_ANSWER_ROOM, &f) == 0 && f.records == 128 && memcmp(sheet, answers.at, FEO_ANSWER_ROOM) == 0);
+    good_contents();
+}
+
+/* The bytes in front of a fragment: each length, any ID and control byte; then as items of feo_send. */
+static void pdvs(void)
+{
+    static const size_t too_long[] = { 16379, 16380, 16384, 65534, 65536, (size_t)1 << 32, ((size_t)1 << 32) + 17, (size_t)-6, (size_t)-2, (size_t)-1 };
+    static const uint8_t fragment[FEO_LONGEST] = { 0xF1 };
+    static struct bytes pdu;
+    struct bytes six;
+    size_t i;
+    given(6);
+    for (i = 0; i <= 16378; i++) {
+        six.n = 0;
+        add_four(&six, i + 2);
+        add_byte(&six, (unsigned)(i & 255));
+        add_byte(&six, (unsigned)(i * 7 & 255));
+        PUT(feo_put_pdv(w.out + 64, (uint8_t)(i & 255), (uint8_t)(i * 7 & 255), i), six.at, 6);
+    }
+    for (i = 0; i < sizeof too_long / sizeof *too_long; i++)
+        NOT_PUT(feo_put_pdv(w.out + 64, 1, 3, too_long[i]), 5);
+    /* a command and the beginning of its data set */
+    items.n = 0;
+    add_pdv(&items, 1, 3, "command", 7);
+    add_pdv(&items, 1, 0, fragment, 300);
+    whole(&pdu, 4, &items);
+    memset(items.at, 0xEE, items.n);
+    CHECK(feo_put_pdv(items.at, 1, FEO_PDV_COMMAND | FEO_PDV_LAST, 7) == 0);
+    memcpy(items.at + FEO_PDV_HEADER_LEN, "command", 7);
+    CHECK(feo_put_pdv(items.at + FEO_PDV_HEADER_LEN + 7, 1, 0, 300) == 0);
+    memcpy(items.at + FEO_PDV_HEADER_LEN + 7 + FEO_PDV_HEADER_LEN, fragment, 300);
+    LOCAL(send_it(0, FEO_BUFFER), FEO_DT_1, 6, pdu.at, pdu.n);
+    /* what is left to feo_send: an even ID, another bit */
+    items.n = FEO_PDV_HEADER_LEN;
+    CHECK(feo_put_pdv(items.at, 2, FEO_PDV_LAST, 0) == 0);
+    REFUSED(send_it(0, FEO_BUFFER), 4);
+    CHECK(feo_put_pdv(items.at, 1, 4, 0) == 0);
+    REFUSED(send_it(0, FEO_BUFFER), 4);
+    good_contents();
+}
+
+/* One PDV of this length, alone, in this state. */
+static void alone(size_t n, unsigned action, unsigned state)
+{
+    static struct bytes pdu;
+    data(&pdu, 1, 2, n);
+    items.n = 0;
+    add(&items, pdu.at + FEO_HEADER_LEN, pdu.n - FEO_HEADER_LEN);
+    if (n <= FEO_LONGEST - FEO_PDV_HEADER_LEN)
+        CHECK(feo_put_pdv(items.at, 1, FEO_PDV_LAST, n) == 0);
+    if (action != 0)
+        LOCAL(send_it(0, FEO_BUFFER), action, state, pdu.at, pdu.n);
+    else
+        REFUSED(send_it(0, FEO_BUFFER), 5);
+}
+
+/* The longest fragment that a peer takes, by the maximum in its AC or RQ: feo_send takes it, and none that is longer. */
+static void fragment_max(void)
+{
+    static const struct {
+        uint32_t peer_max;
+        size_t longest;
+    } peers[] = {
+        { 0, 16378 }, { 1, 0 }, { 5, 0 }, { 6, 0 }, { 7, 1 }, { 8, 2 }, { 261, 255 }, { 4096, 4090 }, { 16383, 16377 },
+        { 16384, 16378 }, { 16385, 16378 }, { 65536, 16378 }, { 0x80000000U, 16378 }, { 0xFFFFFFFFU, 16378 }
+    };
+    static struct bytes pdu;
+    size_t i, most;
+    unsigned side, k;
+    for (i = 0; i < sizeof peers / sizeof *peers; i++)
+        for (side = 0; side < 2; side++) {
+            good_contents();
+            if (side == 0) {
+                acceptance(&pdu, 1, 0, peers[i].peer_max);
+                given(5);
+                w.a.requestor = 1;
+                HEARD(pdu, FEO_AE_3, 6, 0, 0, pdu.n);
+            } else {
+                request(&pdu, 1, APPLICATION, ECHO_CLASS, IMPLICIT);
+                pdu.n -= 4;
+                add_four(&pdu, peers[i].peer_max);
+                given(2);
+                HEARD(pdu, FEO_AE_6, 3, 0, 0, pdu.n);
+                CHECK(accept_it(0, FEO_BUFFER) == 0);
+            }
+            for (k = 0; k < 2; k++) {
+                unsigned state = k == 0 ? 6 : 8, action = k == 0 ? FEO_DT_1 : FEO_AR_7;
+                CHECK(w.a.state == state && w.a.peer_max == peers[i].peer_max);
+                before();
+                most = feo_fragment_max(&w.a);
+                CHECK(most == peers[i].longest && memcmp(&w, &want, sizeof w) == 0);
+                alone(most, peers[i].peer_max == 0 || peers[i].peer_max > 5 ? action : 0, state);
+                alone(most + 1, 0, state);
+                ten(&pdu, 5, 0, 0, 0, 0);
+                if (k == 0)
+                    HEARD(pdu, FEO_AR_2, 8, 0, 0, 0);
+            }
+        }
+    good_contents();
+}
+
+/* What a reject and an abort say, by name: sent, and read again. */
+static void reasons(void)
+{
+    static const uint8_t rejected[][2] = {
+        { FEO_REJECTED_BY_USER, FEO_REJECTED_USER_NO_REASON },
+        { FEO_REJECTED_BY_USER, FEO_REJECTED_USER_APPLICATION_CONTEXT },
+        { FEO_REJECTED_BY_USER, FEO_REJECTED_USER_CALLING_TITLE },
+        { FEO_REJECTED_BY_USER, FEO_REJECTED_USER_CALLED_TITLE },
+        { FEO_REJECTED_BY_ACSE, FEO_REJECTED_ACSE_NO_REASON },
+        { FEO_REJECTED_BY_ACSE, FEO_REJECTED_ACSE_VERSION },
+        { FEO_REJECTED_BY_PRESENTATION, FEO_REJECTED_PRESENTATION_CONGESTION },
+        { FEO_REJECTED_BY_PRESENTATION, FEO_REJECTED_PRESENTATION_LOCAL_LIMIT }
+    };
+    static const uint8_t aborted[] = {
+        FEO_ABORTED_NOT_SPECIFIED, FEO_ABORTED_UNRECOGNIZED_PDU, FEO_ABORTED_UNEXPECTED_PDU,
+        FEO_ABORTED_UNRECOGNIZED_PARAMETER, FEO_ABORTED_UNEXPECTED_PARAMETER, FEO_ABORTED_INVALID_PARAMETER
+    };
+    static struct bytes pdu;
+    size_t i;
+    uint8_t x, y, z;
+    for (i = 0; i < sizeof rejected / sizeof *rejected; i++)
+        for (result = FEO_REJECTED_PERMANENT; result <= FEO_REJECTED_TRANSIENT; result++) {
+            source = rejected[i][0];
+            reason = rejected[i][1];
+            ten(&pdu, 3, 0, result, source, reason);
+            given(3);
+            LOCAL(reject(0, 10), FEO_AE_8, 13, pdu.at, 10);
+            CHECK(feo_read_reject(w.out, w.r.sent, &x, &y, &z) == 0 && x == result && y == source && z == reason);
+        }
+    for (i = 0; i < sizeof aborted; i++) {
+        ten(&pdu, 7, 0, 0, FEO_ABORTED_BY_PROVIDER, aborted[i]);
+        given(6);
+        HEARD(pdu, FEO_AA_3, 1, 0, 0, 10);
+        CHECK(feo_read_abort(w.gather, w.r.shown, &x, &y) == 0 && x == FEO_ABORTED_BY_PROVIDER && y == aborted[i]);
+    }
+    CHECK(feo_read_abort(ABORT_USER, 10, &x, &y) == 0 && x == FEO_ABORTED_BY_USER && y == 0);
+    CHECK(feo_read_abort(ABORT_UNRECOGNIZED, 10, &x, &y) == 0 && x == FEO_ABORTED_BY_PROVIDER && y == FEO_ABORTED_UNRECOGNIZED_PDU);
+    CHECK(feo_read_abort(ABORT_UNEXPECTED, 10, &x, &y) == 0 && x == FEO_ABORTED_BY_PROVIDER && y == FEO_ABORTED_UNEXPECTED_PDU);
+    CHECK(feo_read_abort(ABORT_INVALID, 10, &x, &y) == 0 && x == FEO_ABORTED_BY_PROVIDER && y == FEO_ABORTED_INVALID_PARAMETER);
+    CHECK(feo_read_reject(REJECT_VERSION, 10, &x, &y, &z) == 0);
+    CHECK(x == FEO_REJECTED_PERMANENT && y == FEO_REJECTED_BY_ACSE && z == FEO_REJECTED_ACSE_VERSION);
+    good_contents();
+}
+
 int main(void)
 {
     good_contents();
     header();
+    names();
     cases_1_2();
     case_3();
     case_4_titles();
@@ -954,6 +1263,10 @@ int main(void)
     rejects();
     sending();
     reading();
+    records();
+    pdvs();
+    fragment_max();
+    reasons();
     printf("%ld checks through the header hold\n", checks);
     return 0;
 }
