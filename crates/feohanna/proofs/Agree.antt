@@ -6,7 +6,7 @@ use mathlib.Core.List.{List, []}
 use denote.Ref.{now}
 use Rattle.laws.proofs.Agree.{agree, AgreesLent}
 use Rattle.reading.specs.declared.associate.Associate.{Associate}
-use Rattle.feohanna.specs.Handed.{Handed, handed}
+use Rattle.assoc_bytes.specs.Handed.{Handed, handed}
 use Rattle.feohanna.specs.Fields.{associate, reject, abort, pdvFields}
 use Rattle.feohanna.proofs.calls.feo_raw_receive as receive
 use Rattle.feohanna.proofs.calls.feo_raw_event as event
@@ -14,7 +14,7 @@ use Rattle.feohanna.proofs.calls.feo_raw_confirm as confirm
 use Rattle.feohanna.proofs.calls.feo_raw_accept as accept
 use Rattle.feohanna.proofs.calls.feo_raw_reject as reject
 use Rattle.feohanna.proofs.calls.feo_raw_send as send
-use Rattle.feohanna.proofs.assoc.feo_raw_fresh as fresh
+use Rattle.feohanna.proofs.fresh.feo_raw_fresh as fresh
 use Rattle.feohanna.proofs.readers.feo_raw_read_request as read-request
 use Rattle.feohanna.proofs.readers.feo_raw_read_accept as read-accept
 use Rattle.feohanna.proofs.readers.feo_raw_read_reject as read-reject

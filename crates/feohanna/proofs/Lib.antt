@@ -1,6 +1,3 @@
-pub mod LowLaws
-pub mod BytesLaws
-pub mod HandedLaws
+mod FreshLaws
 mod TitlesLaws
-pub mod Examples
 pub mod Agree

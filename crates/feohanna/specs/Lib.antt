@@ -1,5 +1,1 @@
-pub mod Low
-pub mod Bytes
-pub mod Handed
 pub mod Fields
-pub mod Private

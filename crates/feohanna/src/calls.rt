@@ -1,11 +1,11 @@
 // Receiving and the local events. Each calls by value on the association of the bytes that it is lent, and hands the answer out.
-use crate::assoc::assoc_of;
-use crate::assoc::hand_out;
+use assoc_bytes::assoc_of;
+use assoc_bytes::hand_out;
 ghost use mathlib.Core.Path.{_≡_};
 ghost use Rattle.writing.specs.Fields.{rqOf, acOf, rejectOf, itemsOf};
 ghost use Rattle.association.specs.Events.{Local.plain, Local.confirm, Local.accept, Local.reject, Local.send};
 ghost use Rattle.association.specs.Calls.{receiveOf, localOf};
-ghost use Rattle.feohanna.specs.Handed.{handed, handOut};
+ghost use Rattle.assoc_bytes.specs.Handed.{handed, handOut};
 
 // Bytes were received.
 #[no_mangle]

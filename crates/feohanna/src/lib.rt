@@ -1,17 +1,16 @@
 // The C surface: functions on numbers and byte slices, thin over the calls by value. include/feohanna.h wraps them for a host.
-mod assoc;
 mod calls;
-mod low;
+mod fresh;
 mod readers;
 mod title;
 
-pub use assoc::feo_raw_fresh;
 pub use calls::feo_raw_accept;
 pub use calls::feo_raw_confirm;
 pub use calls::feo_raw_event;
 pub use calls::feo_raw_receive;
 pub use calls::feo_raw_reject;
 pub use calls::feo_raw_send;
+pub use fresh::feo_raw_fresh;
 pub use readers::feo_raw_read_abort;
 pub use readers::feo_raw_read_accept;
 pub use readers::feo_raw_read_data;

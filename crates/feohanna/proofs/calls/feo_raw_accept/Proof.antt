@@ -1,7 +1,7 @@
 -- `feo_raw_accept` meets its contract.
 -- Assumes nothing.
 use borrow.Author.Needs.{needs}
-use Rattle.feohanna.proofs.HandedLaws.{handing}
+use Rattle.assoc_bytes.proofs.HandedLaws.{handing}
 use Rattle.feohanna.proofs.calls.feo_raw_accept.Statement.{statement}
 use Rattle.feohanna.proofs.calls.feo_raw_accept.Tie as tie
 

@@ -1,7 +1,7 @@
 -- `feo_raw_confirm` meets its contract.
 -- Assumes nothing.
 use borrow.Author.Needs.{needs}
-use Rattle.feohanna.proofs.HandedLaws.{handing}
+use Rattle.assoc_bytes.proofs.HandedLaws.{handing}
 use Rattle.feohanna.proofs.calls.feo_raw_confirm.Statement.{statement}
 use Rattle.feohanna.proofs.calls.feo_raw_confirm.Tie as tie
 

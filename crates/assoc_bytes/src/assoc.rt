@@ -1,4 +1,4 @@
-// The association as a host lends it, 16 bytes; what a call hands out.
+// A record as 16 bytes and back, and what is stored and told of an answer.
 use crate::low::low4;
 use crate::low::low8;
 use crate::low::number4;
@@ -6,10 +6,9 @@ use crate::low::number8;
 use association::Answer;
 use association::Assoc;
 ghost use mathlib.Core.Path.{_≡_};
-ghost use Rattle.association.specs.Record.{idle};
-ghost use Rattle.feohanna.specs.Low.{lowAt};
-ghost use Rattle.feohanna.specs.Bytes.{byteOf, isSet, bytesOf, assocOf};
-ghost use Rattle.feohanna.specs.Private.Stored.{Stored};
+ghost use Rattle.assoc_bytes.specs.Low.{lowAt};
+ghost use Rattle.assoc_bytes.specs.Bytes.{byteOf, isSet, bytesOf, assocOf};
+ghost use Rattle.assoc_bytes.specs.Handed.{Stored};
 
 fn is_set(mark: u8) -> bool
     ensures { λ r. ⌜ r ≡ isSet mark ⌝ }
@@ -23,7 +22,8 @@ fn byte_of(mark: bool) -> u8
     if mark { 1 } else { 0 }
 }
 
-fn bytes_of(a: Assoc) -> [u8; 16]
+// A record as its bytes.
+pub fn bytes_of(a: Assoc) -> [u8; 16]
     ensures { λ r. ⌜ r ≡ bytesOf a ⌝ }
 {
     let p = low4(a.peer_max);
@@ -60,7 +60,8 @@ fn gathered_in(s: [u8; 16]) -> usize
     number8(s[8], s[9], s[10], s[11], s[12], s[13], s[14], s[15])
 }
 
-pub(crate) fn assoc_of(s: [u8; 16]) -> Assoc
+// The record that the bytes say.
+pub fn assoc_of(s: [u8; 16]) -> Assoc
     ensures { λ r. ⌜ r ≡ assocOf s ⌝ }
 {
     Assoc {
@@ -73,8 +74,8 @@ pub(crate) fn assoc_of(s: [u8; 16]) -> Assoc
     }
 }
 
-// Hands an answer out. A refused call stores nothing of an association.
-pub(crate) fn hand_out(r: Answer, assoc: &mut [u8; 16], answer: &mut [usize; 4]) -> u8
+// Hands an answer out: its numbers, and its record in bytes, but nothing of a record where the call is refused. The refusal is answered.
+pub fn hand_out(r: Answer, assoc: &mut [u8; 16], answer: &mut [usize; 4]) -> u8
     ensures { λ n. ⌜ Stored (now (assoc .entry)) r n (now (answer .exit)) (now (assoc .exit)) ⌝ }
 {
     let refusal = r.told.refusal;
@@ -89,12 +90,4 @@ pub(crate) fn hand_out(r: Answer, assoc: &mut [u8; 16], answer: &mut [usize; 4])
     }
     *assoc = bytes_of(r.assoc);
     refusal
-}
-
-// Makes a fresh association.
-#[no_mangle]
-pub extern "C" fn feo_raw_fresh(assoc: &mut [u8; 16])
-    ensures { λ _. ⌜ now (assoc .exit) ≡ bytesOf idle ⌝ }
-{
-    *assoc = bytes_of(association::fresh());
 }

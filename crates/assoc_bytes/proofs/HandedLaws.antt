@@ -8,9 +8,8 @@ use borrow.Author.Tests.{eq-eqb, ne-eqb}
 use Rattle.association.specs.declared.Assoc.{Assoc}
 use Rattle.association.specs.declared.Answer.{Answer}
 use Rattle.association.specs.Calls.{Call, call}
-use Rattle.feohanna.specs.Bytes.{bytesOf, assocOf}
-use Rattle.feohanna.specs.Handed.{handed, storedOf, handOut}
-use Rattle.feohanna.specs.Private.Stored.{Stored}
+use Rattle.assoc_bytes.specs.Bytes.{bytesOf, assocOf}
+use Rattle.assoc_bytes.specs.Handed.{handed, storedOf, handOut, Stored}
 
 pub nothing-stored : (s : List ℕ) (r : Answer) → (r .told .refusal ≡ 0 → ⊥) → s ≡ storedOf s r
 unfolding storedOf
@@ -19,10 +18,6 @@ nothing-stored s r h = rw (ne-eqb (r .told .refusal) 0 h)
 pub record-stored : (s s′ : List ℕ) (r : Answer) → r .told .refusal ≡ 0 → s′ ≡ bytesOf (r .assoc) → s′ ≡ storedOf s r
 unfolding storedOf
 record-stored s s′ r h e = rw (eq-eqb (r .told .refusal) 0 h, e)
-
--- the fresh record
-pub fresh-stored : (a b : Assoc) (s : List ℕ) → a ≡ b → s ≡ bytesOf a → s ≡ bytesOf b
-fresh-stored a b s p q = rw (← p) q
 
 -- a call by value, and what is handed out of its answer
 pub hands-out : (s : List ℕ) (a : Assoc) (r : Answer) (by-value : Assoc → Call) (n : ℕ) (answer s′ g o : List ℕ)
@@ -35,6 +30,6 @@ pub refused-stores-nothing : (s : List ℕ) (by-value : Assoc → Call) → (han
 unfolding handOut
 refused-stores-nothing s by-value h = sym (nothing-stored s (by-value (assocOf s) .answer) h)
 
-pub ruleset storing = (nothing-stored, record-stored, fresh-stored, needs)
+pub ruleset storing = (nothing-stored, record-stored, needs)
 
 pub ruleset handing = (hands-out, needs)

@@ -1,9 +1,9 @@
 -- `hand_out` meets its contract.
 -- Assumes nothing.
 use borrow.Author.Needs.{needs}
-use Rattle.feohanna.proofs.HandedLaws.{storing}
-use Rattle.feohanna.proofs.assoc.hand_out.Statement.{statement}
-use Rattle.feohanna.proofs.assoc.hand_out.Tie as tie
+use Rattle.assoc_bytes.proofs.HandedLaws.{storing}
+use Rattle.assoc_bytes.proofs.assoc.hand_out.Statement.{statement}
+use Rattle.assoc_bytes.proofs.assoc.hand_out.Tie as tie
 
 pub hand-out-spec : {M : Type 1} → statement M
 hand-out-spec =

@@ -1,5 +1,6 @@
 -- What a call on an association hands out: its refusal, four numbers, and the association's bytes and the two buffers as it leaves them.
 use Prim.Native.Nat.{ℕ}
+use mathlib.Core.Path.{_≡_}
 use mathlib.Core.Bool.{cond}
 use mathlib.Core.List.{List, [], _∷_}
 use lib.Dec.{eqb}
@@ -8,7 +9,7 @@ use Rattle.association.specs.declared.Assoc.{Assoc}
 use Rattle.association.specs.declared.Told.{Told}
 use Rattle.association.specs.declared.Answer.{Answer}
 use Rattle.association.specs.Calls.{Call}
-use Rattle.feohanna.specs.Bytes.{bytesOf, assocOf}
+use Rattle.assoc_bytes.specs.Bytes.{bytesOf, assocOf}
 
 pub record Handed : Type 0 where
   pub refusal : ℕ
@@ -27,6 +28,12 @@ answerNumbers t = t .action ∷ t .used ∷ t .sent ∷ t .shown ∷ []
 -- a refused call stores nothing, marks above 1 among it; an answered one stores marks as 0 or 1
 unfoldable pub storedOf : List ℕ → Answer → List ℕ
 storedOf s r = cond (eqb (r .told .refusal) NOT-REFUSED) (bytesOf (r .assoc)) s
+
+-- r was handed out over the bytes s, which are now s′: its refusal, and its numbers
+pub record Stored (s : List ℕ) (r : Answer) (refusal : ℕ) (answer s′ : List ℕ) : Type 0 where
+  pub refused : refusal ≡ r .told .refusal
+  pub numbers : answer ≡ answerNumbers (r .told)
+  pub assoc : s′ ≡ storedOf s r
 
 -- the call by value, on the association of the bytes
 unfoldable pub handOut : List ℕ → (Assoc → Call) → Handed

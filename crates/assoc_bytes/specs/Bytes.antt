@@ -5,7 +5,7 @@ use mathlib.Core.List.{List, _∷_, _++_}
 use lib.ListN.{getD}
 use lib.Dec.{eqb}
 use Rattle.association.specs.declared.Assoc.{Assoc}
-use Rattle.feohanna.specs.Low.{low, lowAt}
+use Rattle.assoc_bytes.specs.Low.{low, lowAt}
 
 abbrev pub byteOf : Bool → ℕ
 byteOf mark = cond mark 1 0

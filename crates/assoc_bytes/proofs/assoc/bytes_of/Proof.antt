@@ -1,9 +1,9 @@
 -- `bytes_of` meets its contract.
 -- Assumes nothing.
 use borrow.Author.Needs.{needs}
-use Rattle.feohanna.proofs.BytesLaws.{making}
-use Rattle.feohanna.proofs.assoc.bytes_of.Statement.{statement}
-use Rattle.feohanna.proofs.assoc.bytes_of.Tie as tie
+use Rattle.assoc_bytes.proofs.BytesLaws.{making}
+use Rattle.assoc_bytes.proofs.assoc.bytes_of.Statement.{statement}
+use Rattle.assoc_bytes.proofs.assoc.bytes_of.Tie as tie
 
 pub bytes-of-spec : {M : Type 1} → statement M
 bytes-of-spec =

@@ -2,7 +2,7 @@
 ghost use mathlib.Core.Path.{_≡_};
 ghost use mathlib.Core.List.{[], _∷_};
 ghost use Prim.Native.Nat.{_+_, _*_};
-ghost use Rattle.feohanna.specs.Low.{low, lowAt};
+ghost use Rattle.assoc_bytes.specs.Low.{low, lowAt};
 
 pub(crate) fn low4(n: u32) -> [u8; 4]
     ensures { λ r. ⌜ r ≡ low 4 n ⌝ }

@@ -9,9 +9,9 @@ use lib.ListN.{length, getD}
 use borrow.Author.Needs.{needs}
 use borrow.Author.Tests.{eq-eqb, ne-eqb}
 use Rattle.association.specs.declared.Assoc.{Assoc}
-use Rattle.feohanna.specs.Low.{low, lowAt}
-use Rattle.feohanna.specs.Bytes.{byteOf, isSet, bytesOf, assocOf}
-use Rattle.feohanna.proofs.LowLaws.{low-back, low-there, run, run-all}
+use Rattle.assoc_bytes.specs.Low.{low, lowAt}
+use Rattle.assoc_bytes.specs.Bytes.{byteOf, isSet, bytesOf, assocOf}
+use Rattle.assoc_bytes.proofs.LowLaws.{low-back, low-there, run, run-all}
 
 -- ---- there and back
 mark-back : (m : Bool) → isSet (byteOf m) ≡ m

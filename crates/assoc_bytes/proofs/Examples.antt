@@ -6,7 +6,7 @@ use mathlib.Core.Path.{_≡_, refl}
 use Prim.Native.Nat.{ℕ}
 use Rattle.association.specs.declared.Assoc.{Assoc}
 use Rattle.association.specs.Record.{idle}
-use Rattle.feohanna.specs.Bytes.{bytesOf, assocOf}
+use Rattle.assoc_bytes.specs.Bytes.{bytesOf, assocOf}
 
 -- a fresh one
 pub fresh-bytes : bytesOf idle ≡ 1 ∷ 0 ∷ 0 ∷ 0 ∷ 0 ∷ 0 ∷ 0 ∷ 0 ∷ 0 ∷ 0 ∷ 0 ∷ 0 ∷ 0 ∷ 0 ∷ 0 ∷ 0 ∷ []

@@ -7,7 +7,7 @@ use native.Mathlib.Numerals.{add-one}
 use mathlib.Core.Path.{_≡_, refl, sym, ap, _∙_}
 use mathlib.Core.List.{List, [], _∷_}
 use lib.ListN.{length, getD}
-use Rattle.feohanna.specs.Low.{low, lowAt}
+use Rattle.assoc_bytes.specs.Low.{low, lowAt}
 
 -- the number in bytes
 abbrev valued : List ℕ → ℕ

@@ -1,9 +1,9 @@
 -- `assoc_of` meets its contract.
 -- Assumes nothing.
 use borrow.Author.Needs.{needs}
-use Rattle.feohanna.proofs.BytesLaws.{making}
-use Rattle.feohanna.proofs.assoc.assoc_of.Statement.{statement}
-use Rattle.feohanna.proofs.assoc.assoc_of.Tie as tie
+use Rattle.assoc_bytes.proofs.BytesLaws.{making}
+use Rattle.assoc_bytes.proofs.assoc.assoc_of.Statement.{statement}
+use Rattle.assoc_bytes.proofs.assoc.assoc_of.Tie as tie
 
 pub assoc-of-spec : {M : Type 1} → statement M
 assoc-of-spec =

@@ -1,0 +1,5 @@
+pub mod LowLaws
+pub mod BytesLaws
+pub mod HandedLaws
+pub mod Examples
+pub mod Agree
