@@ -9,6 +9,7 @@ pub use associate::read_accept;
 pub use associate::read_request;
 pub use data::DataRead;
 pub use data::fragment;
+pub use data::pdv_at;
 pub use data::read_data;
 pub use values::AbortRead;
 pub use values::RejectRead;
