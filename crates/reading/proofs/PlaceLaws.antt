@@ -24,33 +24,41 @@ use Rattle.reading.proofs.DataLaws.{size-more, the-pdv, pdv-is, at-n, e
 
 -- ---- `pdv_at`
 module _ (x : List ℕ) (at : ℕ) where
-  pub at-header : at < 6 → record { refusal = 4; id = 0; control = 0; start = 0; len = 0 } ≡ dataAt x at
+  pub at-header : (k : ℕ) → leb k 6 ≡ true → at < k → record { refusal = 4; id = 0; control = 0; start = 0; len = 0 } ≡ dataAt x at
   unfolding dataAt pdvStands
-  at-header h = simp (lt-leb 6 at h)
+  at-header k q h = let l : k ≤ 6 = leb-true _ _ q in simp (lt-leb 6 at (omega arith))
 
-  module _ (h : 6 ≤ at) (e : ℕ) (p : e ≡ pdvEnd x at) where
+  pub at-even : (getD x (at + 4) 0 % 2 ≡ 1 → ⊥) → record { refusal = 4; id = 0; control = 0; start = 0; len = 0 } ≡ dataAt x at
+  unfolding dataAt pdvStands
+  at-even o =
+      simp (
+        ne-eqb (getD x (at + 4) 0 % 2) 1 o,
+        and-false (leb (at + 4 + be32 x at) (length x)),
+        and-false (leb 2 (be32 x at)),
+        and-false (leb 6 at),
+      )
+
+  module _ (e : ℕ) (p : e ≡ pdvEnd x at) where
     pub at-none : e ≡ 0 → record { refusal = 4; id = 0; control = 0; start = 0; len = 0 } ≡ dataAt x at
     unfolding dataAt pdvStands partEnd
-    at-none z = simp (le-leb 6 at h, go (leb 2 (be32 x at)) (leb (at + 4 + be32 x at) (length x)) (eqb (getD x (at + 4) 0 % 2) 1) (sym p ∙ z))
+    at-none z =
+        simp (
+          go (leb 2 (be32 x at)) (leb (at + 4 + be32 x at) (length x)) (eqb (getD x (at + 4) 0 % 2) 1) (sym p ∙ z),
+          and-false (leb 6 at),
+        )
       where
         go : (a b c : Bool) → cond (a && b) (at + 4 + be32 x at) 0 ≡ 0 → (a && (b && c)) ≡ false
         go false b c q = refl
         go true false c q = refl
         go true true c q = absurd (omega arith)
 
-    module _ (ne : e ≡ 0 → ⊥) where
-      pub at-even : (getD x (at + 4) 0 % 2 ≡ 1 → ⊥) → record { refusal = 4; id = 0; control = 0; start = 0; len = 0 } ≡ dataAt x at
-      unfolding dataAt pdvStands
-      at-even o =
-          let i = part-there 2 x at (be32 x at) e p ne in
-          rw (le-leb 6 at h, le-leb 2 (be32 x at) (i .low), le-leb (at + 4 + be32 x at) (length x) (omega arith), ne-eqb (getD x (at + 4) 0 % 2) 1 o)
-
-      pub at-is : getD x (at + 4) 0 % 2 ≡ 1 → record { refusal = 0; id = getD x (at + 4) 0; control = getD x (at + 5) 0; start = at + 6; len = e - (at + 6) } ≡ dataAt x at
-      unfolding dataAt pdvStands
-      at-is o =
-          let i = part-there 2 x at (be32 x at) e p ne in
-          let l : e - (at + 6) ≡ be32 x at - 2 = omega arith in
-          rw (le-leb 6 at h, le-leb 2 (be32 x at) (i .low), le-leb (at + 4 + be32 x at) (length x) (omega arith), eq-eqb (getD x (at + 4) 0 % 2) 1 o, l)
+    pub at-is : 6 ≤ at → (e ≡ 0 → ⊥) → getD x (at + 4) 0 % 2 ≡ 1
+        → record { refusal = 0; id = getD x (at + 4) 0; control = getD x (at + 5) 0; start = at + 6; len = e - (at + 6) } ≡ dataAt x at
+    unfolding dataAt pdvStands
+    at-is h ne o =
+        let i = part-there 2 x at (be32 x at) e p ne in
+        let l : e - (at + 6) ≡ be32 x at - 2 = omega arith in
+        rw (le-leb 6 at h, le-leb 2 (be32 x at) (i .low), le-leb (at + 4 + be32 x at) (length x) (omega arith), eq-eqb (getD x (at + 4) 0 % 2) 1 o, l)
 
 pub ruleset place-laws = (at-header, at-none, at-even, at-is, parting)
 
