@@ -3,7 +3,7 @@
 use crate::contents::title_of_other_length;
 use crate::fields::{pdv_at, read_ac, read_rq};
 use crate::generate::{ac_words, hex, rq_words, Generator};
-use crate::make::{bad_name, bad_title, good_data, good_name, good_title, name_of_length};
+use crate::make::{bad_name, bad_title, good_data, good_name, good_pdv, good_title, name_of_length, DataPlan};
 use crate::pdus::some_pdu;
 use crate::write;
 
@@ -90,9 +90,9 @@ impl Generator {
     }
 
     pub fn call_p(&mut self) {
-        match self.random.below(4) {
+        match self.random.below(5) {
             0 => self.all_places(),
-            1 => self.items_anywhere(),
+            1 | 2 => self.one_item(),
             _ => {
                 let bytes = self.pdu_mostly(4);
                 let place = self.some_place(bytes.len() as u64);
@@ -118,11 +118,25 @@ impl Generator {
         }
     }
 
-    /// PDV items, good or twisted, behind as many bytes as a header has, or more or fewer; asked for where they start.
-    pub fn items_anywhere(&mut self) {
-        let place = self.random.pick(&[0, 2, 5, 6, 6, 7, 12]);
+    /// One PDV item on an edge, behind as many bytes as a header has, or more or fewer; asked for where it starts.
+    pub fn one_item(&mut self) {
+        let place = self.random.pick(&[0, 2, 5, 6, 6, 6, 6, 7, 12]);
         let mut bytes = self.random.bytes(place);
-        bytes.extend(self.some_items());
+        let mut pdv = good_pdv(&mut self.random);
+        let length = pdv.true_length();
+        match self.random.below(6) {
+            0 => pdv.id -= 1,
+            1 => pdv.length = Some(length + 1),
+            2 => pdv.length = Some(length - 1),
+            3 => pdv.length = Some(self.random.pick(&[0, 1, 1, 2, 3, u32::MAX])),
+            _ => {}
+        }
+        let plan = DataPlan { reserved: 0, pdvs: vec![pdv], tail: Vec::new(), slip: 0 };
+        bytes.extend(plan.items());
+        if self.random.chance(10) {
+            let left = self.random.below(bytes.len());
+            bytes.truncate(left);
+        }
         self.say(format!("P {} {}", hex(&bytes), place));
     }
 

@@ -80,7 +80,7 @@ pub static BRANCHES: &[Branch] = &[
     Branch { name: "J", weight: 45, run: Generator::call_j },
     Branch { name: "B", weight: 45, run: Generator::call_b },
     Branch { name: "D", weight: 105, run: Generator::call_d },
-    Branch { name: "P", weight: 60, run: Generator::call_p },
+    Branch { name: "P", weight: 105, run: Generator::call_p },
     Branch { name: "T", weight: 50, run: Generator::call_t },
     Branch { name: "N", weight: 45, run: Generator::call_n },
     Branch { name: "V", weight: 30, run: Generator::call_v },
