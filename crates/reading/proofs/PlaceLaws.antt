@@ -156,9 +156,8 @@ module _ (x : List ℕ) (v : kindOf x ≡ DATA-TF) where
   unfolding dataOf
   past-last n h = rw (v, le-ltb n (length (pdvsOf x)) h)
 
-  -- going from place to place gives the PDVs in their order, and then what a number past the last gives
-  pub in-order : (n : ℕ) → n ≤ length (pdvsOf x) → dataAt x (placeAfter x n) ≡ dataOf x n
-  in-order n h = go (leb (length (pdvsOf x)) n) refl
+  to-last : (n : ℕ) → n ≤ length (pdvsOf x) → dataAt x (placeAfter x n) ≡ dataOf x n
+  to-last n h = go (leb (length (pdvsOf x)) n) refl
     where
       go : (b : Bool) → leb (length (pdvsOf x)) n ≡ b → dataAt x (placeAfter x n) ≡ dataOf x n
       go false q = ap (dataAt x) (place-is n h) ∙ by-place n (leb-false _ _ q)
@@ -166,3 +165,15 @@ module _ (x : List ℕ) (v : kindOf x ≡ DATA-TF) where
           let l : length (pdvsOf x) ≤ n = leb-true _ _ q in
           let e : n ≡ length (pdvsOf x) = omega arith in
           ap (λ (k : ℕ). dataAt x (placeAfter x k)) e ∙ (ap (dataAt x) behind-last ∙ (none-behind ∙ sym (past-last n l)))
+
+  -- going from place to place gives the PDVs in their order, and then what the numbers past the last give: a refusal leads to place 0, which is refused again
+  pub in-order : (n : ℕ) → dataAt x (placeAfter x n) ≡ dataOf x n
+  unfolding placeAfter
+  in-order zero = to-last zero (omega arith)
+  in-order (suc n) = go (in-order n) (leb (length (pdvsOf x)) n) refl
+    where
+      go : dataAt x (placeAfter x n) ≡ dataOf x n → (b : Bool) → leb (length (pdvsOf x)) n ≡ b → dataAt x (placeAfter x (suc n)) ≡ dataOf x (suc n)
+      go ih false q = let l : n < length (pdvsOf x) = leb-false _ _ q in to-last (suc n) (omega arith)
+      go ih true q =
+          let l : length (pdvsOf x) ≤ n = leb-true _ _ q in
+          rw (ih, past-last n l, past-last (suc n) (omega arith)) (sym (at-header x 0 6 refl (omega arith)))
