@@ -1,4 +1,5 @@
-// Feohanna measured in one process and on the same bytes: receiving against memcpy and a plain copy, an RQ read and written against the second program and against DCMTK.
+// Feohanna measured in one process and on the same bytes: receiving against memcpy and a plain copy, the PDVs of a PDU against receiving it, an RQ read and written against the second program and
+// against DCMTK.
 //     bench                     a line for each measurement: its group, what, against what, ns per call of both, their ratio
 //     bench WHAT WHO TIMES      runs one of them so often, for an instruction counter; a wrong WHAT lists them
 #include "feohanna.h"
@@ -111,6 +112,40 @@ static size_t copies(Copy copy, const Bytes &s, size_t n, uint8_t *gather)
     return whole;
 }
 
+// ---- the PDVs of a PDU
+
+static const size_t PDVS = 2730;
+
+// A P-DATA-TF of PDVS empty PDVs, the most that one can have.
+static Bytes empty_pdvs()
+{
+    const uint8_t head[6] = { 4, 0, 0, 0, 0x3F, 0xFC }, item[6] = { 0, 0, 0, 2, 1, 0 };
+    Bytes s(head, head + 6);
+    for (size_t k = 0; k < PDVS; k++)
+        s.insert(s.end(), item, item + 6);
+    return s;
+}
+
+// Goes over them by their numbers: how many there are.
+static size_t by_number(const Bytes &pdu)
+{
+    uint8_t id, control;
+    size_t start, length, n = 0;
+    while (feo_read_data(pdu.data(), pdu.size(), n, &id, &control, &start, &length) == 0)
+        n++;
+    return n;
+}
+
+// And by their places.
+static size_t by_place(const Bytes &pdu)
+{
+    uint8_t id, control;
+    size_t start, length, n = 0;
+    for (size_t at = 6; feo_pdv_at(pdu.data(), pdu.size(), at, &id, &control, &start, &length) == 0; at = start + length)
+        n++;
+    return n;
+}
+
 // ---- an RQ
 
 static const char TITLES[33] = "STORE-EQUINE    CART 1          ";
@@ -168,6 +203,11 @@ static std::vector<Measured> all()
         Measured x = { "receive", "pieces of " + std::to_string(n), { { "feohanna", [n] { return receive(s, n, gather); } }, { "memcpy", [n] { return copies(library, s, n, gather); } }, { "plain", [n] { return copies(plain, s, n, gather); } } } };
         m.push_back(x);
     }
+    static Bytes pdvs = empty_pdvs();
+    must(receive(pdvs, pdvs.size(), gather) == 1 && by_number(pdvs) == PDVS && by_place(pdvs) == PDVS, "the PDVs are not all there");
+    Contender received = { "receiving", [] { return receive(pdvs, pdvs.size(), gather); } };
+    m.push_back({ "go over", "2,730 PDVs by place", { { "feohanna", [] { return by_place(pdvs); } }, received } });
+    m.push_back({ "go over", "2,730 PDVs by number", { { "feohanna", [] { return by_number(pdvs); } }, received } });
     const unsigned sizes[4][2] = { { 1, 1 }, { 1, 3 }, { 128, 1 }, { 128, 3 } };
     for (int writes = 0; writes < 2; writes++)
         for (size_t k = 0; k < 4; k++) {

@@ -14,11 +14,12 @@ SAID = f"On {MACHINE}: " + (
 
 GROUPS = {
     "receive": "Receiving 64 P-DATA-TF PDUs of PDU-length 16,384",
+    "go over": "All PDVs of a P-DATA-TF",
     "read": "Judging and reading an A-ASSOCIATE-RQ",
     "write": "Writing it",
 }
-COLOURS = {"memcpy": "#4c78a8", "plain": "#9ecae9", "second": "#72b7b2", "dcmtk": "#e45756"}
-NAMES = {"memcpy": "memcpy", "plain": f"a plain {MACHINE} copy", "second": "the second program", "dcmtk": "DCMTK"}
+COLOURS = {"memcpy": "#4c78a8", "plain": "#9ecae9", "receiving": "#b279a2", "second": "#72b7b2", "dcmtk": "#e45756"}
+NAMES = {"memcpy": "memcpy", "plain": f"a plain {MACHINE} copy", "receiving": "its receiving", "second": "the second program", "dcmtk": "DCMTK"}
 BEGIN, END = f"<!-- measured on {MACHINE} -->\n", "<!-- end -->\n"
 PLOT = "bench.svg" if MACHINE == "x86-64" else f"bench-{MACHINE.lower()}.svg"
 
@@ -69,7 +70,7 @@ def plot(measured):
     legend, at = "", 10
     for who, colour in COLOURS.items():
         legend += f'<rect x="{at}" y="8" width="11" height="11" fill="{colour}"/><text x="{at + 16}" y="18">against {NAMES[who]}</text>'
-        at += 100 + 7 * len(NAMES[who])
+        at += 64 + 7 * len(NAMES[who])
     return (
         f'<svg xmlns="http://www.w3.org/2000/svg" viewBox="0 0 780 {y + 44}" font-family="sans-serif" font-size="12">'
         f'<rect width="100%" height="100%" fill="white"/>{legend}{grid}{"".join(body)}'

@@ -109,7 +109,7 @@ enum feo_refusal_number {
     FEO_BLANK_CELL = 1,     /* a local event at a blank cell of Table 9-10 */
     FEO_SHORT_OUTPUT = 2,   /* out, or the sheet that is filled, is too short; feo_receive always wants 10 bytes of out */
     FEO_SHORT_GATHER = 3,   /* gather is shorter than FEO_BUFFER when receiving, or than the gathered count at a local event */
-    FEO_BAD_CONTENTS = 4,   /* bad contents of a local request, title list, sought title, PDV number or sheet */
+    FEO_BAD_CONTENTS = 4,   /* bad contents of a local request, title list, sought title, PDV number or place, or sheet */
     FEO_LONG_PDU = 5,       /* PDU-length to be sent above 16,384, or a P-DATA-TF's above a non-zero peer maximum */
     FEO_BROKEN_RECORD = 6,  /* no call leaves such an association: it was not made by FEO_FRESH, or was written to */
     FEO_NO_SUCH_PDU = 7     /* the bytes are no whole valid PDU of the kind that is read */
@@ -257,6 +257,8 @@ uint8_t feo_raw_read_reject(const uint8_t *pdu, size_t pdu_len, uint8_t *result,
 uint8_t feo_raw_read_abort(const uint8_t *pdu, size_t pdu_len, uint8_t *source, uint8_t *reason);
 uint8_t feo_raw_read_data(
     const uint8_t *pdu, size_t pdu_len, size_t number, uint8_t *id, uint8_t *control, size_t *start, size_t *length);
+uint8_t feo_raw_pdv_at(
+    const uint8_t *pdu, size_t pdu_len, size_t at, uint8_t *id, uint8_t *control, size_t *start, size_t *length);
 uint8_t feo_raw_title_known(const uint8_t *own, size_t own_len, const uint8_t *sought, size_t sought_len, uint8_t *known);
 #ifdef __cplusplus
 }
@@ -406,6 +408,17 @@ static inline uint8_t feo_read_data(
     const uint8_t *pdu, size_t pdu_len, size_t number, uint8_t *id, uint8_t *control, size_t *start, size_t *length)
 {
     return feo_raw_read_data(feo_part(pdu, pdu_len), pdu_len, number, id, control, start, length);
+}
+
+/*
+ * The PDV item at a place of a P-DATA-TF, to go over all of them once: the first is at 6, the next at *start + *length, and behind
+ * the last, at pdu_len, the answer is 4. It looks at that item alone, and so is only for a PDU that a call showed: 4 below 6, and
+ * where no whole item (length at least 2, odd ID) stands; never 7.
+ */
+static inline uint8_t feo_pdv_at(
+    const uint8_t *pdu, size_t pdu_len, size_t at, uint8_t *id, uint8_t *control, size_t *start, size_t *length)
+{
+    return feo_raw_pdv_at(feo_part(pdu, pdu_len), pdu_len, at, id, control, start, length);
 }
 
 /* Whether the sought title, 16 bytes, is one of our own: 0 to 8 titles of 16 bytes each. *known is 1 or 0. */

@@ -993,6 +993,102 @@ static void reading(void)
     CHECK(feo_read_data(NULL, 0, 0, &x, &y, &start, &length) == 7);
 }
 
+/* What feo_pdv_at hands out, among guard bytes. */
+struct item {
+    uint8_t guard0[8];
+    uint8_t id;
+    uint8_t guard1[8];
+    uint8_t control;
+    uint8_t guard2[8];
+    size_t start;
+    uint8_t guard3[8];
+    size_t length;
+    uint8_t guard4[8];
+};
+
+static void placed(int line, const uint8_t *pdu, size_t n, size_t at, unsigned refusal, unsigned id, unsigned control, size_t start, size_t length)
+{
+    struct item got, item;
+    memset(&got, 0xEE, sizeof got);
+    memset(&item, 0xEE, sizeof item);
+    item.id = (uint8_t)id;
+    item.control = (uint8_t)control;
+    item.start = start;
+    item.length = length;
+    check(line, feo_pdv_at(pdu, n, at, &got.id, &got.control, &got.start, &got.length) == refusal, "the refusal of feo_pdv_at");
+    check(line, memcmp(&got, &item, sizeof got) == 0, "the PDV at a place, and the guard bytes");
+}
+
+#define PLACED(place, id, control, start, length) placed(__LINE__, pdu.at, pdu.n, (place), 0, (id), (control), (start), (length))
+#define NO_PDV(count, place) placed(__LINE__, pdu.at, (count), (place), 4, 0, 0, 0, 0)
+
+/* PDVs by their places. */
+static void places(void)
+{
+    static struct bytes pdu, b;
+    uint8_t id, control, id_n, control_n;
+    size_t at, n, start, length, start_n, length_n;
+    b.n = 0;
+    add_pdv(&b, 1, 0xF3, "abc", 3);
+    add_pdv(&b, 3, 0, "", 0);
+    add_pdv(&b, 255, 2, "d", 1);
+    whole(&pdu, 4, &b);
+    CHECK(pdu.n == 28);
+    PLACED(6, 1, 0xF3, 12, 3);
+    PLACED(15, 3, 0, 21, 0);
+    PLACED(21, 255, 2, 27, 1);
+    /* behind the last, past the end, in the header, within an item */
+    NO_PDV(28, 28);
+    for (n = 0; n < 32; n++) {
+        NO_PDV(28, 29 + n);
+        NO_PDV(28, (size_t)-1 - n);
+    }
+    for (n = 0; n < 6; n++)
+        NO_PDV(28, n);
+    NO_PDV(28, 7);
+    NO_PDV(28, 22);
+    /* the last one not whole, the first still given */
+    for (n = 21; n < 28; n++)
+        NO_PDV(n, 21);
+    placed(__LINE__, pdu.at, 27, 6, 0, 1, 0xF3, 12, 3);
+    placed(__LINE__, NULL, 0, 6, 4, 0, 0, 0, 0);
+    placed(__LINE__, NULL, 0, 0, 4, 0, 0, 0, 0);
+    /* what would be an item in the header is none: its length at 2 is 2, its ID 1 */
+    pdu.n = 0;
+    add(&pdu, "\x04\x00\x00\x00\x00\x02\x01\x03", 8);
+    NO_PDV(8, 2);
+    /* an even ID; lengths 1, one too much, and the greatest; an item alone, whatever the header says */
+    pdu.n = 0;
+    add(&pdu, "\x07\xFF\xFF\xFF\xFF\xFF\x00\x00\x00\x03\x01\xFF\x09", 13);
+    PLACED(6, 1, 0xFF, 12, 1);
+    pdu.at[10] = 2;
+    NO_PDV(13, 6);
+    pdu.at[10] = 0;
+    NO_PDV(13, 6);
+    pdu.at[10] = 1;
+    pdu.at[9] = 1;
+    NO_PDV(13, 6);
+    pdu.at[9] = 2;
+    PLACED(6, 1, 0xFF, 12, 0);
+    pdu.at[9] = 4;
+    NO_PDV(13, 6);
+    memset(pdu.at + 6, 0xFF, 4);
+    NO_PDV(13, 6);
+    /* the most that a PDU can hold, 2,730 empty ones, each as by its number; none where they end */
+    b.n = 0;
+    for (n = 0; n < 2730; n++)
+        add_pdv(&b, (unsigned)(2 * n + 1) & 255, (unsigned)n & 3, "", 0);
+    whole(&pdu, 4, &b);
+    for (n = 0, at = 6; feo_pdv_at(pdu.at, pdu.n, at, &id, &control, &start, &length) == 0; n++, at = start + length) {
+        CHECK(at == 6 + 6 * n && id == ((2 * n + 1) & 255) && control == (n & 3) && start == at + 6 && length == 0);
+        if (n % 91 == 0) {
+            CHECK(feo_read_data(pdu.at, pdu.n, n, &id_n, &control_n, &start_n, &length_n) == 0);
+            CHECK(id == id_n && control == control_n && start == start_n && length == length_n);
+        }
+    }
+    CHECK(n == 2730 && at == pdu.n);
+}
+
 /* What a call is to do to a part of the world's out: `want` is what was before but for these bytes. */
 static void put(int line, uint8_t got, unsigned refusal, const void *bytes, size_t n)
 {
@@ -1263,6 +1359,7 @@ int main(void)
     rejects();
     sending();
     reading();
+    places();
     records();
     pdvs();
     fragment_max();

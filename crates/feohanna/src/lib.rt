@@ -11,6 +11,7 @@ pub use calls::feo_raw_receive;
 pub use calls::feo_raw_reject;
 pub use calls::feo_raw_send;
 pub use fresh::feo_raw_fresh;
+pub use readers::feo_raw_pdv_at;
 pub use readers::feo_raw_read_abort;
 pub use readers::feo_raw_read_accept;
 pub use readers::feo_raw_read_data;

@@ -3,7 +3,7 @@ ghost use mathlib.Core.Path.{_≡_};
 ghost use Rattle.numbers.specs.Kinds.{ASSOCIATE-RQ, ASSOCIATE-AC};
 ghost use Rattle.reading.specs.Associate.{Read};
 ghost use Rattle.reading.specs.Values.{rejectIn, abortIn};
-ghost use Rattle.reading.specs.Data.{dataOf};
+ghost use Rattle.reading.specs.Data.{dataOf, dataAt};
 ghost use Rattle.feohanna.specs.Fields.{associate, reject, abort, pdvFields};
 
 #[no_mangle]
@@ -94,4 +94,24 @@ pub extern "C" fn feo_raw_read_data(
     *start = f.start;
     *length = f.len;
     f.refusal
+}
+
+// The PDV item at this place of the PDU, by itself.
+#[no_mangle]
+pub extern "C" fn feo_raw_pdv_at(
+    pdu: &[u8],
+    at: usize,
+    id: &mut u8,
+    control: &mut u8,
+    start: &mut usize,
+    length: &mut usize,
+) -> u8
+    ensures { λ r. ⌜ pdvFields r (now (id .exit)) (now (control .exit)) (now (start .exit)) (now (length .exit)) ≡ dataAt (now (pdu .entry)) at ⌝ }
+{
+    let item = reading::pdv_at(pdu, at);
+    *id = item.id;
+    *control = item.control;
+    *start = item.start;
+    *length = item.len;
+    item.refusal
 }

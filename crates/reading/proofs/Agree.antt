@@ -9,6 +9,7 @@ use Rattle.reading.proofs.values.read_reject as read-reject
 use Rattle.reading.proofs.values.read_abort as read-abort
 use Rattle.reading.proofs.data.read_data as read-data
 use Rattle.reading.proofs.data.fragment as fragment
+use Rattle.reading.proofs.data.pdv_at as pdv-at
 
 pub read-request-agrees : AgreesLent 2 read-request.Kinds.ps read-request.Kinds.r read-request.Reads.Post (λ κs x. now (x .1 .0))
 read-request-agrees κs args a b x y p q = (agree (p .answer) (q .answer), agree (p .sheet) (q .sheet))
@@ -27,3 +28,6 @@ read-data-agrees κs args a b x y p q = agree p q
 
 pub fragment-agrees : AgreesPart 1 fragment.Kinds.ps fragment.Kinds.r fragment.Reads.Post (λ κs a. a)
 fragment-agrees κs args a b x y p q = parts-agree p q
+
+pub pdv-at-agrees : Agrees 1 pdv-at.Kinds.ps pdv-at.Kinds.r pdv-at.Reads.Post
+pdv-at-agrees κs args a b x y p q = agree p q

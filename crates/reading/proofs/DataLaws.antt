@@ -23,7 +23,7 @@ use Rattle.reading.specs.Data.{pdvsOf, pdv, startOf, dataOf, fragmentOf}
 use Rattle.reading.specs.declared.data.DataRead.{DataRead}
 
 -- ---- lists
-size-more : (ps : List Pdv) (k : ℕ) (p : Pdv) (qs : List Pdv) → drop k ps ≡ p ∷ qs → size (take (suc k) ps) ≡ size (take k ps) + (6 + length (p .fragment))
+pub size-more : (ps : List Pdv) (k : ℕ) (p : Pdv) (qs : List Pdv) → drop k ps ≡ p ∷ qs → size (take (suc k) ps) ≡ size (take k ps) + (6 + length (p .fragment))
 size-more [] zero p qs e = let z : _≡_ {A = ℕ} 0 1 = cc in absurd (omega arith)
 size-more [] (suc k) p qs e = let z : _≡_ {A = ℕ} 0 1 = cc in absurd (omega arith)
 size-more (q ∷ ps) zero p qs e = let z : q ≡ p = cc in rw z (omega arith)
@@ -187,13 +187,13 @@ pub ruleset data-laws = (needs, data-other, data-six, data-past, data-id, data-c
 -- ---- what a reading that is not refused tells
 module _ (x : List ℕ) (n : ℕ) (v : kindOf x ≡ 4) (h : n < length (pdvsOf x)) where
   -- where PDV n stands and ends in the body
-  abbrev at-n : ℕ
+  abbrev pub at-n : ℕ
   at-n = size (take n (pdvs (drop 6 x)))
 
-  abbrev end-n : ℕ
+  abbrev pub end-n : ℕ
   end-n = pdvEnd (drop 6 x) at-n
 
-  there : end-n ≡ 0 → ⊥
+  pub there : end-n ≡ 0 → ⊥
   unfolding pdvsOf
   there z = let l = run-out (pdvs (drop 6 x)) n (no-pdv (drop 6 x) n at-n end-n refl refl z) in omega arith
 
@@ -206,7 +206,7 @@ module _ (x : List ℕ) (n : ℕ) (v : kindOf x ≡ 4) (h : n < length (pdvsOf x
       let z : 6 + (at-n + 6) ≡ 6 + at-n + 6 = omega arith in
       ap (λ (p : Pdv). p .fragment) (pdv-is (drop 6 x) n at-n end-n refl refl there) ∙ (rw (drop-drop (at-n + 6) 6 x, z))
 
-  length-n : length (pdv (pdvsOf x) n .fragment) ≡ end-n - (at-n + 6)
+  pub length-n : length (pdv (pdvsOf x) n .fragment) ≡ end-n - (at-n + 6)
   length-n =
       let i = stands in
       let l = length-drop 6 x in
@@ -214,7 +214,7 @@ module _ (x : List ℕ) (n : ℕ) (v : kindOf x ≡ 4) (h : n < length (pdvsOf x
       ap length fragment-n ∙ length-take-le (end-n - (at-n + 6)) (drop (6 + at-n + 6) x) (omega arith)
 
   -- the answer
-  data-in : dataOf x n ≡ record { refusal = 0; id = pdv (pdvsOf x) n .id; control = pdv (pdvsOf x) n .control; start = startOf (pdvsOf x) n; len = length (pdv (pdvsOf x) n .fragment) }
+  pub data-in : dataOf x n ≡ record { refusal = 0; id = pdv (pdvsOf x) n .id; control = pdv (pdvsOf x) n .control; start = startOf (pdvsOf x) n; len = length (pdv (pdvsOf x) n .fragment) }
   unfolding dataOf
   data-in = rw (v, lt-ltb n (length (pdvsOf x)) h)
 

@@ -2,6 +2,7 @@ pub mod FillLaws
 pub mod ReadLaws
 pub mod ValueLaws
 pub mod DataLaws
+pub mod PlaceLaws
 pub mod Agree
 pub mod Meaning
 pub mod Sizes

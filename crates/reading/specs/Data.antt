@@ -1,13 +1,14 @@
 -- "Reading a PDV by its number, from 0, hands back the fragment's own part of the gathered PDU. A number past the last is refused with 4."
-use Prim.Native.Nat.{ℕ, _+_}
-use mathlib.Core.Bool.{Bool, not, cond}
+use Prim.Native.Nat.{ℕ, zero, suc, _+_, _-_}
+use mathlib.Core.Bool.{Bool, not, _&&_, cond}
 use mathlib.Core.List.{List, [], _∷_}
 use lib.ListN.{length, take, drop, getD}
-use lib.Dec.{ltb, eqb}
+use lib.Dec.{leb, ltb, eqb}
 use Rattle.laws.specs.Refusals.{firstDue}
 use Rattle.numbers.specs.Refusals.{NOT-REFUSED, BAD-CONTENTS, NO-SUCH-PDU}
 use Rattle.numbers.specs.Kinds.{DATA-TF}
 use Rattle.numbers.specs.Lengths.{HEADER}
+use Rattle.octets.specs.Octets.{be32, odd}
 use Rattle.pdvs.specs.Data.{Pdv, pdvs, size}
 use Rattle.judging.specs.Pdu.{kindOf}
 use Rattle.reading.specs.declared.data.DataRead.{DataRead}
@@ -49,3 +50,19 @@ dataOf pdu n =
 -- the part of the PDU from that start, of that length: the fragment (DataLaws.fragment-is), and nothing where refused
 unfoldable pub fragmentOf : List ℕ → ℕ → List ℕ
 fragmentOf pdu n = take (dataOf pdu n .len) (drop (dataOf pdu n .start) pdu)
+
+-- ---- a PDV by its place: no reading call of document 01; the PDU's header and its other PDVs are not looked at
+-- a whole PDV item stands at a place behind the header: "four-byte length at least 2, odd ID, control byte .., fragment, perhaps empty"
+unfoldable pub pdvStands : List ℕ → ℕ → Bool
+pdvStands pdu at = leb HEADER at && (leb 2 (be32 pdu at) && (leb (at + 4 + be32 pdu at) (length pdu) && odd (getD pdu (at + 4) 0)))
+
+unfoldable pub dataAt : List ℕ → ℕ → DataRead
+dataAt pdu at =
+    cond (pdvStands pdu at)
+    (record { refusal = NOT-REFUSED; id = getD pdu (at + 4) 0; control = getD pdu (at + 5) 0; start = at + 6; len = be32 pdu at - 2 })
+    (record { refusal = BAD-CONTENTS; id = 0; control = 0; start = 0; len = 0 })
+
+-- where a host is after n PDVs: at first behind the header, then each time behind the fragment that stood where it was
+unfoldable pub placeAfter : List ℕ → ℕ → ℕ
+placeAfter pdu zero = HEADER
+placeAfter pdu (suc n) = dataAt pdu (placeAfter pdu n) .start + dataAt pdu (placeAfter pdu n) .len

@@ -1,9 +1,9 @@
-// Reading a PDV by its number.
+// Reading a PDV by its number, or by its place.
 ghost use mathlib.Core.Path.{_≡_};
 ghost use lib.ListN.{take};
 ghost use Rattle.octets.specs.Slice.{PartOf};
 ghost use Rattle.pdvs.specs.Data.{pdvs, size};
-ghost use Rattle.reading.specs.Data.{dataOf, fragmentOf};
+ghost use Rattle.reading.specs.Data.{dataOf, dataAt, fragmentOf};
 
 // refusal: NOT_REFUSED, or NO_SUCH_PDU or BAD_CONTENTS with all else 0. The fragment starts at start, counted from the PDU's first byte, and has len bytes.
 pub struct DataRead {
@@ -73,4 +73,34 @@ pub fn fragment(pdu: &[u8], number: usize) -> &[u8]
     let start = d.start;
     let end = start + d.len;
     &pdu[start..end]
+}
+
+// The PDV item that stands at a place of the PDU, by itself: the header and the other items are not looked at. The next one's place is start + len.
+pub fn pdv_at(pdu: &[u8], at: usize) -> DataRead
+    ensures { λ r. ⌜ r ≡ dataAt (now (pdu .entry)) at ⌝ }
+{
+    let none = DataRead {
+        refusal: numbers::BAD_CONTENTS,
+        id: 0,
+        control: 0,
+        start: 0,
+        len: 0,
+    };
+    if at < numbers::HEADER {
+        return none;
+    }
+    let e = pdvs::pdv_end(pdu, at);
+    if e == 0 {
+        return none;
+    }
+    if pdu[at + 4] % 2 != 1 {
+        return none;
+    }
+    DataRead {
+        refusal: numbers::NOT_REFUSED,
+        id: pdu[at + 4],
+        control: pdu[at + 5],
+        start: at + 6,
+        len: e - (at + 6),
+    }
 }

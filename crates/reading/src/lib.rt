@@ -1,4 +1,4 @@
-// The fields of a received PDU. Readers know no state: they take the bytes, and judge them first.
+// The fields of a received PDU. Readers know no state: they take the bytes, and judge them first; pdv_at alone looks at no more than its item.
 mod associate;
 mod data;
 mod fill;
@@ -9,6 +9,7 @@ pub use associate::read_accept;
 pub use associate::read_request;
 pub use data::DataRead;
 pub use data::fragment;
+pub use data::pdv_at;
 pub use data::read_data;
 pub use values::AbortRead;
 pub use values::RejectRead;

@@ -33,7 +33,7 @@ fn kinds_of(call: u8) -> [u8; 5] {
     match call {
         b'r' | b'd' | b'K' | b'J' | b'B' | b'N' | b'V' => [BYTES, NONE, NONE, NONE, NONE],
         b'E' | b'T' => [BYTES, BYTES, NONE, NONE, NONE],
-        b'D' => [BYTES, NUMBER, NONE, NONE, NONE],
+        b'D' | b'P' => [BYTES, NUMBER, NONE, NONE, NONE],
         b'Q' | b'A' => [BYTES, NONE, NONE, NONE, SHEET_LENGTH],
         b'e' => [BYTE, NONE, NONE, NONE, NONE],
         b'j' => [BYTE, BYTE, BYTE, NONE, NONE],
@@ -65,6 +65,7 @@ fn plain_call(call: u8, line: &[u8], w: &Words) {
         b'J' => readers::reject(line, w),
         b'B' => readers::abort(line, w),
         b'D' => readers::data(line, w),
+        b'P' => readers::pdv_at(line, w),
         b'T' => readers::title_known(line, w),
         b'N' => yes_or_no(names::name_ok(bytes(line, w, FIRST))),
         b'V' => yes_or_no(titles::title_ok(bytes(line, w, FIRST))),

@@ -87,6 +87,20 @@ pub(crate) fn data(line: &[u8], w: &Words) {
     print_with(&numbers, reading::fragment(pdu, number));
 }
 
+// P PDU PLACE
+pub(crate) fn pdv_at(line: &[u8], w: &Words) {
+    let f = reading::pdv_at(bytes(line, w, FIRST), number(w, SECOND) as usize);
+    print(
+        &[
+            f.refusal as u64,
+            f.id as u64,
+            f.control as u64,
+            f.start as u64,
+            f.len as u64,
+        ],
+    );
+}
+
 fn two(refusal: u8, known: u64) {
     print(&[refusal as u64, known]);
 }

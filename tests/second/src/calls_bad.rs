@@ -5,7 +5,7 @@ use crate::generate::{hex, Generator};
 impl Generator {
     pub fn bad_form(&mut self) {
         let nine = self.good_nine(6).text();
-        let line = match self.random.below(30) {
+        let line = match self.random.below(31) {
             0 => "".to_string(),
             1 => "x = -".to_string(),
             2 => "R = -".to_string(),
@@ -35,6 +35,7 @@ impl Generator {
             26 => "7 0 256 10".to_string(),
             27 => "# a comment".to_string(),
             28 => "r\t=\t-".to_string(),
+            29 => "P - 18446744073709551616".to_string(),
             _ => self.too_long_string(),
         };
         self.say(line);

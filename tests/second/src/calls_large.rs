@@ -88,6 +88,7 @@ impl Generator {
             6 => self.full_data_request(over),
             7 => self.full_piece(),
             8 => self.full_ac_writing(over),
+            9 => self.full_reading("P", "large: P", over),
             _ => self.full_rq_writing(if over == 0 { "1" } else { "c" }, 1, true),
         }
     }
@@ -98,6 +99,7 @@ impl Generator {
         let (mut bytes, words) = match call {
             "Q" => (self.filled_associate(1), " 528"),
             "D" => (vec![4, 0, 0, 0, 0x40, 0, 0, 0, 0x3f, 0xfc, 1, 2], " 0"),
+            "P" => (vec![4, 0, 0, 0, 0x40, 0, 0, 0, 0x3f, 0xfc, 1, 2], " 6"),
             _ => (self.filled_associate(2), ""),
         };
         bytes.resize(16_390, 0x77);
@@ -213,7 +215,7 @@ fn long_items(length: usize) -> Vec<u8> {
 /// Makes a PDU of 16,384 one of 16,385 that is right in all else.
 fn one_longer(bytes: &mut Vec<u8>, call: &str) {
     bytes.push(0x77);
-    if call == "D" {
+    if call == "D" || call == "P" {
         bytes[9] += 1;
     } else if let Some(place) = bytes.windows(2).rposition(|pair| pair == [0xf0, 0]) {
         let length = (bytes.len() - place - 4) as u16;

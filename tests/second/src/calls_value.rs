@@ -1,9 +1,9 @@
 //! Reading and writing calls for the generator, with lent sheets and outputs of every size.
 
 use crate::contents::title_of_other_length;
-use crate::fields::{read_ac, read_rq};
+use crate::fields::{pdv_at, read_ac, read_rq};
 use crate::generate::{ac_words, hex, rq_words, Generator};
-use crate::make::{bad_name, bad_title, good_data, good_name, good_title, name_of_length};
+use crate::make::{bad_name, bad_title, good_data, good_name, good_pdv, good_title, name_of_length, DataPlan};
 use crate::pdus::some_pdu;
 use crate::write;
 
@@ -87,6 +87,65 @@ impl Generator {
         }
         let number = self.random.below(plan.pdvs.len());
         self.say(format!("D {} {}", hex(&plan.bytes()), number));
+    }
+
+    pub fn call_p(&mut self) {
+        match self.random.below(5) {
+            0 => self.all_places(),
+            1 | 2 => self.one_item(),
+            _ => {
+                let bytes = self.pdu_mostly(4);
+                let place = self.some_place(bytes.len() as u64);
+                self.say(format!("P {} {}", hex(&bytes), place));
+            }
+        }
+    }
+
+    /// All PDVs of a P-DATA-TF by their places, and the refusal behind the last; its header is seldom another's.
+    pub fn all_places(&mut self) {
+        let mut bytes = good_data(&mut self.random).bytes();
+        if self.random.chance(20) {
+            let header = self.random.bytes(6);
+            bytes[..6].copy_from_slice(&header);
+        }
+        let mut place = 6;
+        loop {
+            self.say(format!("P {} {}", hex(&bytes), place));
+            match pdv_at(&bytes, place) {
+                Ok(part) => place = (part.start + part.length) as u64,
+                Err(_) => break,
+            }
+        }
+    }
+
+    /// One PDV item on an edge, behind as many bytes as a header has, or more or fewer; asked for where it starts.
+    pub fn one_item(&mut self) {
+        let place = self.random.pick(&[0, 2, 5, 6, 6, 6, 6, 7, 12]);
+        let mut bytes = self.random.bytes(place);
+        let mut pdv = good_pdv(&mut self.random);
+        let length = pdv.true_length();
+        match self.random.below(6) {
+            0 => pdv.id -= 1,
+            1 => pdv.length = Some(length + 1),
+            2 => pdv.length = Some(length - 1),
+            3 => pdv.length = Some(self.random.pick(&[0, 1, 1, 2, 3, u32::MAX])),
+            _ => {}
+        }
+        let plan = DataPlan { reserved: 0, pdvs: vec![pdv], tail: Vec::new(), slip: 0 };
+        bytes.extend(plan.items());
+        if self.random.chance(10) {
+            let left = self.random.below(bytes.len());
+            bytes.truncate(left);
+        }
+        self.say(format!("P {} {}", hex(&bytes), place));
+    }
+
+    /// A place within the PDU, at its ends, or far away.
+    pub fn some_place(&mut self, length: u64) -> u64 {
+        let within = self.random.below(length as usize + 1) as u64;
+        let far = self.random.pick(&[255, 65_536, 4_294_967_296, u64::MAX, u64::MAX - 3, u64::MAX - 5]);
+        let end = length.saturating_sub(self.random.pick(&[0, 0, 1, 3, 5, 6, 7]));
+        self.random.pick(&[6, 6, 6, within, within, end, length + 1, far])
     }
 
     pub fn call_t(&mut self) {

@@ -64,7 +64,7 @@ fn refusals(counts: &Counts) -> String {
         text += &format!("{:>8}", number);
     }
     text += "\n";
-    for call in "r e c a j d K Q A J B D T N V E 1 2 3 4 5 6 7".split(' ') {
+    for call in "r e c a j d K Q A J B D P T N V E 1 2 3 4 5 6 7".split(' ') {
         text += &format!("{:<4}", call);
         for number in 0..8u8 {
             text += &format!("{:>8}", counts.refusals.get(&(call.to_string(), number)).unwrap_or(&0));

@@ -1,5 +1,6 @@
 //! Reading calls: the fields of a whole valid PDU of the kind asked for.
 
+use crate::items::{first_pdv, Pdv};
 use crate::valid::{judge, Associate, Context, Pdu};
 
 /// Bytes of one record of the context sheet.
@@ -109,17 +110,21 @@ pub fn read_abort(bytes: &[u8]) -> Result<(u8, u8), u8> {
 /// Reads a PDV by its number, from 0.
 pub fn read_pdv(bytes: &[u8], number: u64) -> Result<Part<'_>, u8> {
     match judge(bytes) {
-        Ok(Pdu::Data(pdvs)) if number < pdvs.len() as u64 => {
-            let pdv = &pdvs[number as usize];
-            Ok(Part {
-                id: pdv.id,
-                control: pdv.control,
-                start: pdv.at,
-                length: pdv.fragment.len(),
-                fragment: pdv.fragment,
-            })
-        }
+        Ok(Pdu::Data(pdvs)) if number < pdvs.len() as u64 => Ok(part(&pdvs[number as usize])),
         Ok(Pdu::Data(_)) => Err(4),
         _ => Err(7),
     }
+}
+
+/// The PDV item at a place behind the header, whatever else the PDU is.
+pub fn pdv_at(bytes: &[u8], place: u64) -> Result<Part<'_>, u8> {
+    if place < 6 || place > bytes.len() as u64 {
+        return Err(4);
+    }
+    let place = place as usize;
+    first_pdv(&bytes[place..], place).map(|(pdv, _)| part(&pdv)).map_err(|_| 4)
+}
+
+fn part<'a>(pdv: &Pdv<'a>) -> Part<'a> {
+    Part { id: pdv.id, control: pdv.control, start: pdv.at, length: pdv.fragment.len(), fragment: pdv.fragment }
 }

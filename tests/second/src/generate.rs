@@ -80,6 +80,7 @@ pub static BRANCHES: &[Branch] = &[
     Branch { name: "J", weight: 45, run: Generator::call_j },
     Branch { name: "B", weight: 45, run: Generator::call_b },
     Branch { name: "D", weight: 105, run: Generator::call_d },
+    Branch { name: "P", weight: 105, run: Generator::call_p },
     Branch { name: "T", weight: 50, run: Generator::call_t },
     Branch { name: "N", weight: 45, run: Generator::call_n },
     Branch { name: "V", weight: 30, run: Generator::call_v },
@@ -150,7 +151,7 @@ impl Generator {
         let cells = Turns::new(filled_cells(), &mut random);
         let events = Turns::new(pairs(&states, &numbers), &mut random);
         let received = Turns::new(pairs(&states_and_deaf, &kinds), &mut random);
-        let full = Turns::new(pairs(&[0, 1, 2, 3, 4, 5, 6, 7, 8, 9], &[0, 1]), &mut random);
+        let full = Turns::new(pairs(&[0, 1, 2, 3, 4, 5, 6, 7, 8, 9, 10], &[0, 1]), &mut random);
         let rejects = Turns::new(pairs(&[0, 1, 2, 3, 4], &[0, 1, 2, 3, 4, 5, 6, 7, 8, 255]), &mut random);
         let aborts = Turns::new(pairs(&[0, 1, 2, 2, 3], &[0, 1, 2, 3, 4, 5, 6, 7, 255]), &mut random);
         let mut generator = Generator {

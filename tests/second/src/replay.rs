@@ -1,6 +1,6 @@
 //! One call line in, one answer line out; a line of bad form is answered with `?`.
 
-use crate::fields::{kind, read_abort, read_ac, read_pdv, read_rj, read_rq, Fields};
+use crate::fields::{kind, pdv_at, read_abort, read_ac, read_pdv, read_rj, read_rq, Fields};
 use crate::generate::hex;
 use crate::machine::{local_event, receive, Answer, Lent, Record, Request};
 use crate::names::{name_is_valid, title_check, title_is_valid, titles_equal};
@@ -131,7 +131,7 @@ impl Replay {
             "a" => self.accept(&mut words),
             "j" => self.reject(&mut words),
             "d" => self.data(&mut words),
-            "K" | "Q" | "A" | "J" | "B" | "D" => self.reading(&mut words),
+            "K" | "Q" | "A" | "J" | "B" | "D" | "P" => self.reading(&mut words),
             "T" | "N" | "V" | "E" => self.names(&mut words),
             "1" | "2" | "3" | "4" | "5" | "6" | "7" => self.writing(&mut words),
             _ => None,
@@ -238,6 +238,7 @@ impl Replay {
         match call {
             "Q" | "A" => self.associate_fields(call, &pdu, words),
             "D" => self.pdv(&pdu, words),
+            "P" => self.placed(&pdu, words),
             _ => {
                 words.end()?;
                 Some(self.small_fields(call, &pdu))
@@ -277,6 +278,15 @@ impl Replay {
                 self.last.refusal = refusal;
                 format!("{} 0 0 0 0 -", refusal)
             }
+        })
+    }
+
+    fn placed(&mut self, pdu: &[u8], words: &mut Words) -> Option<String> {
+        let place = words.number(u64::MAX)?;
+        words.end()?;
+        Some(match pdv_at(pdu, place) {
+            Ok(part) => format!("0 {} {} {} {}", part.id, part.control, part.start, part.length),
+            Err(refusal) => self.refused(refusal, " 0 0 0 0"),
         })
     }
 

@@ -3,7 +3,7 @@
 use std::collections::BTreeSet;
 
 use crate::contents::{good_sheet, Sheet, ANSWER, PROPOSAL, SHEET};
-use crate::fields::{kind, read_ac, read_pdv, read_rj, read_rq, sheet_record};
+use crate::fields::{kind, pdv_at, read_ac, read_pdv, read_rj, read_rq, sheet_record};
 use crate::generate::{filled_cells, hex, Generator};
 use crate::items::four_bytes;
 use crate::machine::{
@@ -462,6 +462,23 @@ fn pdv_by_number() {
     assert_eq!((part.id, part.control, part.start, part.length, part.fragment), (3, 0, 21, 0, &[][..]));
     assert_eq!((read_pdv(&bytes, 2), read_pdv(&bytes, u64::MAX)), (Err(4), Err(4)));
     assert_eq!(read_pdv(&write::release_rq(), 9), Err(7));
+}
+
+#[test]
+fn pdv_by_place() {
+    let mut bytes = [4, 0, 0, 0, 0, 15, 0, 0, 0, 5, 1, 0xff, 7, 8, 9, 0, 0, 0, 2, 3, 0];
+    assert_eq!(pdv_at(&bytes, 6), read_pdv(&bytes, 0));
+    assert_eq!(pdv_at(&bytes, 15), read_pdv(&bytes, 1));
+    for place in (0..6).chain([7, 14, 16, 21, 22, u64::MAX - 5, u64::MAX]) {
+        assert_eq!(pdv_at(&bytes, place), Err(4));
+    }
+    assert_eq!(pdv_at(&bytes[..20], 15), Err(4));
+    bytes[0] = 7;
+    bytes[19] = 2;
+    assert_eq!(pdv_at(&bytes, 6).map(|part| (part.id, part.start, part.length)), Ok((1, 12, 3)));
+    assert_eq!(pdv_at(&bytes, 15), Err(4));
+    assert_eq!(pdv_at(&[4, 0, 0, 0, 0, 2, 1, 3], 2), Err(4));
+    assert_eq!(pdv_at(&[], 6), Err(4));
 }
 
 #[test]
