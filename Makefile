@@ -1,7 +1,7 @@
 # The commands of README.md and docs/ARCHITECTURE.md.
 SHELL := /bin/bash
 .SHELLFLAGS := -o pipefail -c
-.PHONY: run test fuzz bench pages
+.PHONY: run test lib install uninstall fuzz bench pages
 
 # Proves, builds and runs the listen program on a real sender's request, and shows its lines.
 run:
@@ -13,6 +13,25 @@ run:
 # The gate: every proof, every must-fail edit, every program, every other test.
 test:
 	@bash .ci/run
+
+# The archive that a host in C links, proved and built anew where a file of crates/ is newer than it.
+archive := target/staticlib/libfeohanna.a
+lib: $(archive)
+	@echo "The archive, for x86-64 Linux: $(archive)"
+
+$(archive): crates.txt $(shell find crates)
+	@command -v rt >/dev/null || { echo "make lib: there is no rt: install the Rattle kit, and put its folder bin into PATH" >&2; exit 1; }
+	@rt staticlib feohanna 2>&1 | grep -Ev '^fn .*: proved$$|^library |^logic'
+
+# Header, archive, feohanna.pc and manual page: make install PREFIX=/usr/local DESTDIR=
+install uninstall: export PREFIX = /usr/local
+install uninstall: export INCLUDEDIR = $(PREFIX)/include
+install uninstall: export LIBDIR = $(PREFIX)/lib
+install uninstall: export MANDIR = $(PREFIX)/share/man
+install: lib
+	@bash packaging/install
+uninstall:
+	@bash packaging/install --remove
 
 # Fresh calls by the second program against replay: make fuzz SEED=7 COUNT=100000
 fuzz:

@@ -18,6 +18,9 @@
 #include <stdint.h>
 #include <string.h>
 
+/* The version. While it begins with 0 its second number grows with every change of a call or a name. */
+#define FEO_VERSION "0.4.0"
+
 /* Room for any PDU that is received or sent. feo_receive asks it of its gather buffer. */
 #define FEO_BUFFER 16390
 
