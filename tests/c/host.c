@@ -1,6 +1,6 @@
 /*
- * The loop of docs/HOST.md (loop.h) over a socket: an acceptor that takes each request as it is, with the first transfer syntax of each
- * context. Signals, faults of the system's calls, the time, a peer that goes, and refused calls change nothing but what they must.
+ * The code of docs/HOST.md (loop.h) over a socket, as acceptor and as requestor. Signals, faults of the system's calls, the time, a
+ * peer that goes, and refused calls change nothing but what they must.
  */
 #define _POSIX_C_SOURCE 200809L
 #include <signal.h>
@@ -17,7 +17,8 @@
 
 static struct outcome {
     char seen[400], refusals[200];
-    size_t fragments;
+    size_t fragments, lasts;
+    uint32_t sum;     /* of the fragments' bytes, in order */
     int64_t due[32];  /* when ARTIM expires, after each action */
     size_t actions;
     struct bytes back;
@@ -70,45 +71,34 @@ void refused(struct line *l, const char *call, uint8_t number)
     sprintf(got.refusals + strlen(got.refusals), "%s: %s. ", call, feo_refusal_name(number));
 }
 
-/* Accepts the request that is shown. */
-static void take(struct line *l, size_t shown)
+static uint32_t summed(uint32_t sum, const uint8_t *p, size_t n)
 {
-    static uint8_t sheet[132 * 3257], answers[132 * 128];
-    struct feo_associate f;
-    struct feo_answer r;
-    size_t i, n = 0;
-    must(feo_read_request(l->gather, shown, sheet, sizeof sheet, &f) == 0, "the request is read");
-    for (i = 0; i < f.records; i++) {
-        const uint8_t *from = sheet + i * 132;
-        uint8_t *to = answers + n * 132;
-        if (n != 0 && to[-132] == from[0])
-            continue;
-        memset(to, 0, 132);
-        to[0] = from[0];
-        to[3] = from[3];
-        memcpy(to + 68, from + 68, 64);
-        n++;
-    }
-    feo_accept(
-        &l->a, l->gather + FEO_ECHOED_AT, FEO_ECHOED_LEN, l->gather + f.application_at, f.application_len, answers, n * 132,
-        l->gather, FEO_BUFFER, l->out, FEO_BUFFER, &r);
-    must(after(l, "feo_accept", &r), "the request is accepted");
+    for (; n != 0; n--)
+        sum = sum * 31 + *p++;
+    return sum;
 }
+
+/* Our titles. */
+static const char own[] = "STORE-EXOTIC     STORE-EQUINE   ";
+static size_t own_len = 32;
 
 void act(struct line *l, const struct feo_answer *r)
 {
     uint8_t id, control;
-    size_t k, start, length;
+    size_t at, start, length;
     strcat(strcat(got.seen, feo_action_name(r->action)), " ");
     must(got.actions < 32, "an end to the actions");
     got.due[got.actions++] = l->due;
     if (besides != NULL)
         besides(l, r->action);
     if (r->action == FEO_AE_6 && l->a.state == FEO_STA_3)
-        take(l, r->shown);
+        answer_request(l, r->shown, (const uint8_t *)own, own_len);
     if (r->action == FEO_DT_2)
-        for (k = 0; feo_read_data(l->gather, r->shown, k, &id, &control, &start, &length) == 0; k++)
+        for (at = FEO_HEADER_LEN; feo_pdv_at(l->gather, r->shown, at, &id, &control, &start, &length) == 0; at = start + length) {
             got.fragments += length;
+            got.lasts += (control & FEO_PDV_LAST) != 0;
+            got.sum = summed(got.sum, l->gather + start, length);
+        }
     if (r->action == FEO_AR_2)
         tell(l, FEO_RELEASE_RESPONSE);
 }
@@ -175,6 +165,31 @@ static void talk(const struct bytes *bytes, struct peer peer, long us)
     close(ends[0]);
     if (apart)
         must(waitpid(child, NULL, 0) == child, "the child ends");
+}
+
+/* A requestor, whose peer is a host of our own in another process. fd -1: it cannot connect. */
+static void asks(const char *called, const uint8_t *command, size_t n, int connects)
+{
+    static struct line l;
+    int ends[2], status;
+    pid_t child;
+    memset(&got, 0, sizeof got);
+    must(socketpair(AF_UNIX, SOCK_STREAM, 0, ends) == 0 && (child = fork()) >= 0, "a pair of sockets, a child");
+    l.fd = ends[child != 0];
+    close(ends[child == 0]);
+    ticking(1500);
+    if (child == 0) {
+        serve(&l);
+        must(got.fragments == n && got.lasts == (n != 0) && got.sum == summed(0, command, n), "the peer has it all");
+        _exit(0);
+    }
+    if (!connects) {
+        close(l.fd);
+        l.fd = -1;
+    }
+    deliver(&l, called, "NIGHT-SCANNER   ", command, n);
+    ticking(0);
+    must(waitpid(child, &status, 0) == child && status == 0, "the peer is content");
 }
 
 static int sees(const char *actions)
@@ -257,6 +272,57 @@ static void in_one_read(void)
     association();
 }
 
+/* Two contexts with two transfer syntaxes each. */
+static void two_contexts(struct bytes *to)
+{
+    static const char *const transfers[2] = { IMPLICIT, "1.2.840.10008.1.2.1" };
+    static struct bytes b, context;
+    size_t i;
+    b.n = 0;
+    add_fixed(&b, 1);
+    add_name(&b, 0x10, APPLICATION);
+    for (i = 0; i < 2; i++) {
+        context.n = 0;
+        add_four(&context, i == 0 ? 0x01000000 : 0x07000000);
+        add_name(&context, 0x30, ECHO_CLASS);
+        add_name(&context, 0x40, transfers[i]);
+        add_name(&context, 0x40, transfers[1 - i]);
+        add_item(&b, 0x20, context.at, context.n);
+    }
+    add_user(&b, 16384);
+    whole(to, 1, &b);
+}
+
+/* The first transfer syntax of each context is taken; another application context or title is rejected. */
+static void answered(void)
+{
+    uint8_t sheet[3 * FEO_RECORD_LEN];
+    struct feo_associate f;
+    two_contexts(&all);
+    talk(&all, AT_ONCE, 0);
+    must(sees("AE-5 AE-6 AE-7 AA-4 ") && feo_read_accept(got.back.at, got.back.n, sheet, sizeof sheet, &f) == 0, "two contexts");
+    pdu.n = 0;
+    add_record(&pdu, 1, 0, "", IMPLICIT);
+    add_record(&pdu, 7, 0, "", "1.2.840.10008.1.2.1");
+    must(f.records == 2 && memcmp(sheet, pdu.at, pdu.n) == 0, "each with the first transfer syntax");
+    request(&all, 1, "1.2.840.10008.3.1.1.2", ECHO_CLASS, IMPLICIT);
+    talk(&all, AT_ONCE, 0);
+    ten(&pdu, 3, 0, 1, 1, 2);
+    must(sees("AE-5 AE-6 AE-8 AR-5 ") && comes_back(&pdu), "another application context");
+    all = rq;
+    memcpy(all.at + FEO_CALLED_AT, "STORE-EXOTICS   ", FEO_TITLE_LEN);
+    talk(&all, AT_ONCE, 0);
+    ten(&pdu, 3, 0, 1, 1, 7);
+    must(sees("AE-5 AE-6 AE-8 AR-5 ") && comes_back(&pdu), "another called title");
+    own_len = 31;
+    talk(&rq, AT_ONCE, 0);
+    own_len = 32;
+    must(
+        strcmp(got.seen, "AE-5 AE-6 AA-1 AR-5 ") == 0 && strcmp(got.refusals, "feo_title_known: bad contents. ") == 0,
+        "where it cannot be answered it is aborted");
+    association();
+}
+
 static uint8_t sleeps_at;
 
 static void sleeps(struct line *l, uint8_t action)
@@ -324,18 +390,12 @@ static void times(void)
 
 static void sends_much(struct line *l, uint8_t action)
 {
-    static struct bytes items;
-    static const uint8_t zero[16000];
-    struct feo_answer r;
-    int i, room = 5000;
-    items.n = 0;
-    add_pdv(&items, 1, 0, zero, sizeof zero);
+    static const uint8_t zero[100000];
+    int room = 5000;
+    if (action != FEO_AE_7)
+        return;
     must(setsockopt(l->fd, SOL_SOCKET, SO_SNDBUF, &room, sizeof room) == 0, "little room");
-    for (i = 0; action == FEO_AE_7 && i < 100; i++) {
-        feo_send(&l->a, items.at, items.n, l->gather, FEO_BUFFER, l->out, FEO_BUFFER, &r);
-        must(r.refusal == 0, "data is sent");
-        send_out(l, r.sent);
-    }
+    must(send_set(l, 1, 0, zero, sizeof zero), "data is sent");
 }
 
 /* The peer goes, or does not read, while we send. SIGPIPE would end the test. */
@@ -354,10 +414,47 @@ static void goes(void)
     faults.own_clock = 1;
     besides = sends_much;
     talk(&rq, stays, 0);
-    must(sees("AE-5 AE-6 AE-7 AA-4 ") && faults.ms == 1000000 + SEND_MS, "the peer does not read");
+    must(sees("AE-5 AE-6 AE-7 DT-1 DT-1 DT-1 DT-1 DT-1 DT-1 DT-1 AA-4 ") && faults.ms == 1000000 + SEND_MS, "the peer does not read");
     besides = NULL;
     faults.own_clock = 0;
     association();
+}
+
+static void requestor(void)
+{
+    static uint8_t command[40000];
+    size_t i;
+    for (i = 0; i < sizeof command; i++)
+        command[i] = (uint8_t)(i * i >> 3);
+    asks("STORE-EQUINE    ", command, sizeof command, 1);
+    must(sees("AE-1 AE-2 AE-3 DT-1 DT-1 DT-1 AR-1 AR-3 "), "a requestor");
+    asks("STORE-EQUINE    ", command, 1, 1);
+    must(sees("AE-1 AE-2 AE-3 DT-1 AR-1 AR-3 "), "a command of one byte");
+    asks("STORE-EQUUS     ", command, 0, 1);
+    must(sees("AE-1 AE-2 AE-4 "), "a requestor that is rejected");
+    asks("STORE-EQUINE    ", command, 0, 0);
+    must(sees("AE-1 AA-4 "), "a connection that is not there");
+    asks("BACK\\SLASH      ", command, 0, 1);
+    must(
+        strcmp(got.seen, "AE-1 AA-2 ") == 0 && strcmp(got.refusals, "feo_confirm: bad contents. ") == 0,
+        "a title that may not be sent is told, and ends it");
+}
+
+/* A peer that takes no byte of data in a P-DATA-TF. */
+static void no_room(void)
+{
+    static struct line l;
+    int ends[2];
+    memset(&got, 0, sizeof got);
+    acceptance(&pdu, 1, 0, 6);
+    must(socketpair(AF_UNIX, SOCK_STREAM, 0, ends) == 0 && write(ends[0], pdu.at, pdu.n) == (ssize_t)pdu.n, "an AC is there");
+    must(shutdown(ends[0], SHUT_WR) == 0, "and nothing else");
+    l.fd = ends[1];
+    deliver(&l, "STORE-EQUINE    ", "NIGHT-SCANNER   ", (const uint8_t *)"x", 1);
+    close(ends[0]);
+    must(
+        strcmp(got.seen, "AE-1 AE-2 AE-3 AA-1 AR-5 ") == 0 && strcmp(got.refusals, "feo_fragment_max: PDU too long. ") == 0,
+        "no room for data is told, and ends it");
 }
 
 static void fails_at_once(void)
@@ -385,10 +482,13 @@ static void too_early(struct line *l, uint8_t action)
         must(!tell(l, FEO_RELEASE_RESPONSE) && l->a.state == FEO_STA_6, "a response to nothing is refused");
 }
 
+/* A fault of the host's memory: deaf is for Sta13 alone. */
+static uint8_t breaks_at;
+
 static void breaks(struct line *l, uint8_t action)
 {
-    if (action == FEO_AE_7)
-        l->a.state = 77;
+    if (action == breaks_at)
+        l->a.deaf = 1;
 }
 
 /* A refusal is told, and where the box cannot go on the loop ends. */
@@ -400,10 +500,16 @@ static void refusals(void)
     got.refusals[0] = 0;
     is_served("an association with a refused event");
     besides = breaks;
+    breaks_at = FEO_AE_7;
     talk(&all, AT_ONCE, 0);
     must(strcmp(got.refusals, "feo_receive: broken record. ") == 0, "refused bytes are told, and end it");
     talk(&rq, AT_ONCE, 0);
     must(strcmp(got.refusals, "feo_event: broken record. ") == 0, "so is a refused end");
+    breaks_at = FEO_AE_6;
+    talk(&rq, AT_ONCE, 0);
+    must(
+        strcmp(got.refusals, "feo_accept: broken record. feo_event: broken record. feo_event: broken record. ") == 0,
+        "and a refused answer, with the abort in its place");
     besides = NULL;
 }
 
@@ -412,8 +518,11 @@ int main(void)
     association();
     served();
     in_one_read();
+    answered();
     times();
     goes();
+    requestor();
+    no_room();
     fails_at_once();
     refusals();
     printf("the loop of docs/HOST.md serves an association, with signals, faults and refusals\n");
