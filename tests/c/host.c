@@ -40,9 +40,7 @@ static void tick(int number)
     static const char line[] = "host.c: it hangs, seen: ";
     if (number == SIGALRM && ticks_left-- > 0)
         return;
-    if (write(1, line, sizeof line - 1) > 0 && write(1, got.seen, strlen(got.seen)) > 0)
-        _exit(1);
-    _exit(2);
+    _exit(write(1, line, sizeof line - 1) > 0 && write(1, got.seen, strlen(got.seen)) > 0 ? 1 : 2);
 }
 
 static void ticking(long us)
@@ -121,7 +119,7 @@ static void writes(int fd, const struct bytes *bytes, struct peer peer)
     size_t at, n;
     for (at = 0; at < bytes->n; at += n) {
         if (at == peer.waits_at && at != 0)
-            must((poll)(&back, 1, 20000) == 1, "bytes come back");
+            must(poll(&back, 1, 20000) == 1, "bytes come back");
         n = peer.piece != 0 && peer.piece < bytes->n - at ? peer.piece : bytes->n - at;
         if (at < peer.waits_at && peer.waits_at < at + n)
             n = peer.waits_at - at;
@@ -137,7 +135,7 @@ static void writes(int fd, const struct bytes *bytes, struct peer peer)
 static void talk(const struct bytes *bytes, struct peer peer, long us)
 {
     static struct line l;
-    int ends[2], apart = peer.piece != 0 || peer.waits_at != 0;
+    int ends[2], status, apart = peer.piece != 0 || peer.waits_at != 0;
     pid_t child = 0;
     ssize_t n;
     memset(&got, 0, sizeof got);
@@ -164,10 +162,10 @@ static void talk(const struct bytes *bytes, struct peer peer, long us)
         got.back.n += (size_t)n;
     close(ends[0]);
     if (apart)
-        must(waitpid(child, NULL, 0) == child, "the child ends");
+        must(waitpid(child, &status, 0) == child && status == 0, "the peer wrote it all");
 }
 
-/* A requestor, whose peer is a host of our own in another process. fd -1: it cannot connect. */
+/* A requestor, whose peer is a host of our own in another process. */
 static void asks(const char *called, const uint8_t *command, size_t n, int connects)
 {
     static struct line l;
