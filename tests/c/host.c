@@ -32,7 +32,7 @@ static void must(int holds, const char *what)
     exit(1);
 }
 
-/* A signal every so many microseconds, that interrupts what waits; after 20 seconds of them it is a failure. */
+/* Ticks that may still come: then it hangs. */
 static volatile sig_atomic_t ticks_left;
 
 static void tick(int number)
@@ -43,17 +43,20 @@ static void tick(int number)
     _exit(write(1, line, sizeof line - 1) > 0 && write(1, got.seen, strlen(got.seen)) > 0 ? 1 : 2);
 }
 
+/* A signal every so many microseconds, that interrupts what waits, for 20 seconds; 0: every 10 seconds, and what waits goes on. */
 static void ticking(long us)
 {
     struct sigaction s;
     struct itimerval t;
     memset(&s, 0, sizeof s);
+    memset(&t, 0, sizeof t);
+    must(setitimer(ITIMER_REAL, &t, NULL) == 0, "the ticks stop");
     s.sa_handler = tick;
-    ticks_left = us == 0 ? 0 : (sig_atomic_t)(20000000 / us);
-    t.it_interval.tv_sec = 0;
+    s.sa_flags = us == 0 ? SA_RESTART : 0;
+    ticks_left = us == 0 ? 1 : (sig_atomic_t)(20000000 / us);
+    t.it_interval.tv_sec = us == 0 ? 10 : 0;
     t.it_interval.tv_usec = us;
     t.it_value = t.it_interval;
-    t.it_value.tv_sec = us == 0 ? 20 : 0;
     must(sigaction(SIGALRM, &s, NULL) == 0 && setitimer(ITIMER_REAL, &t, NULL) == 0, "the ticks are set");
 }
 
