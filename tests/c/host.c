@@ -1,114 +1,531 @@
-/* The loop of docs/HOST.md (loop.h) over a socket: an acceptor that takes each request as it is, with the first transfer syntax of each context. */
+/*
+ * The code of docs/HOST.md (loop.h) over a socket, as acceptor and as requestor. Signals, faults of the system's calls, the time, a
+ * peer that goes, and refused calls change nothing but what they must.
+ */
+#define _POSIX_C_SOURCE 200809L
+#include <signal.h>
 #include <stdio.h>
 #include <stdlib.h>
-#include <sys/socket.h>
+#include <sys/time.h>
+#include <sys/wait.h>
 
+#include "faults.h"
 #include "loop.h"
 #include "build.h"
 
-static char seen[200];
-static size_t fragments;
+/* ---- what a test sees */
 
-int artim_left(const struct line *l)
-{
-    return l->a.state == FEO_STA_2 ? 0 : 1000;
-}
+static struct outcome {
+    char seen[400], refusals[200];
+    size_t fragments, lasts;
+    uint32_t sum;     /* of the fragments' bytes, in order */
+    int64_t due[32];  /* when ARTIM expires, after each action */
+    size_t actions;
+    struct bytes back;
+} got;
 
 static void must(int holds, const char *what)
 {
     if (holds)
         return;
-    printf("host.c: not so: %s (seen: %s)\n", what, seen);
+    printf("host.c: not so: %s (seen: %s; refused: %s)\n", what, got.seen, got.refusals);
     exit(1);
 }
 
-/* Accepts the request that is shown. */
-static void answer(struct line *l, size_t shown)
+/* Ticks that may still come: then it hangs. */
+static volatile sig_atomic_t ticks_left;
+
+static void tick(int number)
 {
-    static uint8_t sheet[FEO_PROPOSAL_ROOM], answers[FEO_ANSWER_ROOM];
-    struct feo_associate f;
-    struct feo_answer r;
-    size_t i, n = 0;
-    must(feo_read_request(l->gather, shown, sheet, sizeof sheet, &f) == 0, "the request is read");
-    for (i = 0; i < f.records; i++) {
-        const uint8_t *from = sheet + i * FEO_RECORD_LEN;
-        uint8_t *to = answers + n * FEO_RECORD_LEN;
-        if (n != 0 && to[FEO_RECORD_ID_AT - FEO_RECORD_LEN] == from[FEO_RECORD_ID_AT])
-            continue;
-        must(
-            feo_put_record(
-                to, from[FEO_RECORD_ID_AT], FEO_CONTEXT_ACCEPTED, NULL, 0, from + FEO_RECORD_TRANSFER_AT, from[FEO_RECORD_TRANSFER_LEN_AT]) == 0,
-            "an answer is written");
-        n++;
-    }
-    must(
-        feo_accept(
-            &l->a, l->gather + FEO_ECHOED_AT, FEO_ECHOED_LEN, l->gather + f.application_at, f.application_len, answers, n * FEO_RECORD_LEN,
-            l->gather, FEO_BUFFER, l->out, FEO_BUFFER, &r) == 0,
-        "the request is accepted");
-    act(l, &r);
+    static const char line[] = "host.c: it hangs, seen: ";
+    if (number == SIGALRM && ticks_left-- > 0)
+        return;
+    _exit(write(1, line, sizeof line - 1) > 0 && write(1, got.seen, strlen(got.seen)) > 0 ? 1 : 2);
 }
+
+/* A signal every so many microseconds, that interrupts what waits, for 20 seconds; 0: every 10 seconds, and what waits goes on. */
+static void ticking(long us)
+{
+    struct sigaction s;
+    struct itimerval t;
+    memset(&s, 0, sizeof s);
+    memset(&t, 0, sizeof t);
+    must(setitimer(ITIMER_REAL, &t, NULL) == 0, "the ticks stop");
+    s.sa_handler = tick;
+    s.sa_flags = us == 0 ? SA_RESTART : 0;
+    ticks_left = us == 0 ? 1 : (sig_atomic_t)(20000000 / us);
+    t.it_interval.tv_sec = us == 0 ? 10 : 0;
+    t.it_interval.tv_usec = us;
+    t.it_value = t.it_interval;
+    must(sigaction(SIGALRM, &s, NULL) == 0 && setitimer(ITIMER_REAL, &t, NULL) == 0, "the ticks are set");
+}
+
+/* ---- the host */
+
+/* What a test does besides, at an action. */
+static void (*besides)(struct line *l, uint8_t action);
+
+void refused(struct line *l, const char *call, uint8_t number)
+{
+    (void)l;
+    must(strlen(got.refusals) < 100, "an end to the refusals");
+    sprintf(got.refusals + strlen(got.refusals), "%s: %s. ", call, feo_refusal_name(number));
+}
+
+static uint32_t summed(uint32_t sum, const uint8_t *p, size_t n)
+{
+    for (; n != 0; n--)
+        sum = sum * 31 + *p++;
+    return sum;
+}
+
+/* Our titles. */
+static const char own[] = "STORE-EXOTIC     STORE-EQUINE   ";
+static size_t own_len = 32;
 
 void act(struct line *l, const struct feo_answer *r)
 {
     uint8_t id, control;
-    size_t k, start, length;
-    if (r->action != FEO_NO_ACTION)
-        strcat(strcat(seen, feo_action_name(r->action)), " ");
-    must(write(l->fd, l->out, r->sent) == (ssize_t)r->sent, "the bytes are sent");
+    size_t at, start, length;
+    strcat(strcat(got.seen, feo_action_name(r->action)), " ");
+    must(got.actions < 32, "an end to the actions");
+    got.due[got.actions++] = l->due;
+    if (besides != NULL)
+        besides(l, r->action);
     if (r->action == FEO_AE_6 && l->a.state == FEO_STA_3)
-        answer(l, r->shown);
+        answer_request(l, r->shown, (const uint8_t *)own, own_len);
     if (r->action == FEO_DT_2)
-        for (k = 0; feo_read_data(l->gather, r->shown, k, &id, &control, &start, &length) == 0; k++)
-            fragments += length;
+        for (at = FEO_HEADER_LEN; feo_pdv_at(l->gather, r->shown, at, &id, &control, &start, &length) == 0; at = start + length) {
+            got.fragments += length;
+            got.lasts += (control & FEO_PDV_LAST) != 0;
+            got.sum = summed(got.sum, l->gather + start, length);
+        }
     if (r->action == FEO_AR_2)
         tell(l, FEO_RELEASE_RESPONSE);
 }
 
-/* Serves what is in `bytes`, and reads what comes back. */
-static void talk(const struct bytes *bytes, int close_it, struct bytes *back)
+/* ---- the peer */
+
+/* How the peer behaves. */
+struct peer {
+    size_t piece;    /* it writes so many bytes at a time, 0 all at once, with 5 milliseconds between */
+    size_t waits_at; /* here it waits for bytes to come back; 0 nowhere */
+    enum { STAYS, SHUTS, CLOSES } end; /* whether the connection is still there when all is written */
+};
+
+static const struct peer AT_ONCE = { 0, 0, SHUTS };
+
+static void writes(int fd, const struct bytes *bytes, struct peer peer)
 {
-    static struct line l;
-    int ends[2];
-    ssize_t n;
-    seen[0] = 0;
-    back->n = 0;
-    must(socketpair(AF_UNIX, SOCK_STREAM, 0, ends) == 0, "a pair of sockets");
-    must(write(ends[0], bytes->at, bytes->n) == (ssize_t)bytes->n, "the bytes are written");
-    if (close_it)
-        must(shutdown(ends[0], SHUT_WR) == 0, "the end is closed");
-    l.fd = ends[1];
-    serve(&l);
-    while ((n = read(ends[0], back->at + back->n, sizeof back->at - back->n)) > 0)
-        back->n += (size_t)n;
-    close(ends[0]);
+    static const struct timespec pause = { 0, 5000000 };
+    struct pollfd back = { fd, POLLIN, 0 };
+    size_t at, n;
+    for (at = 0; at < bytes->n; at += n) {
+        if (at == peer.waits_at && at != 0)
+            must(poll(&back, 1, 20000) == 1, "bytes come back");
+        n = peer.piece != 0 && peer.piece < bytes->n - at ? peer.piece : bytes->n - at;
+        if (at < peer.waits_at && peer.waits_at < at + n)
+            n = peer.waits_at - at;
+        must(write(fd, bytes->at + at, n) == (ssize_t)n, "the bytes are written");
+        if (peer.piece != 0)
+            nanosleep(&pause, NULL);
+    }
+    if (peer.end != STAYS)
+        must(shutdown(fd, SHUT_WR) == 0, "the peer's end is shut");
 }
 
-int main(void)
+/* Serves a peer that writes these bytes, and reads what comes back; us: a signal so often. */
+static void talk(const struct bytes *bytes, struct peer peer, long us)
 {
-    static struct bytes all, pdu, ac, back;
-    request(&pdu, 1, APPLICATION, ECHO_CLASS, IMPLICIT);
-    add(&all, pdu.at, pdu.n);
+    static struct line l;
+    int ends[2], status, apart = peer.piece != 0 || peer.waits_at != 0;
+    pid_t child = 0;
+    ssize_t n;
+    memset(&got, 0, sizeof got);
+    faults.polls = faults.recvs = faults.sends = faults.signals = 0;
+    faults.ms = 1000000;
+    must(socketpair(AF_UNIX, SOCK_STREAM, 0, ends) == 0, "a pair of sockets");
+    if (apart && (child = fork()) == 0) {
+        close(ends[1]);
+        writes(ends[0], bytes, peer);
+        _exit(0);
+    }
+    must(child >= 0, "a child");
+    if (!apart)
+        writes(ends[0], bytes, peer);
+    if (peer.end == CLOSES)
+        close(ends[0]);
+    ticking(us);
+    l.fd = ends[1];
+    serve(&l);
+    ticking(0);
+    if (peer.end == CLOSES)
+        return;
+    while ((n = read(ends[0], got.back.at + got.back.n, sizeof got.back.at - got.back.n)) > 0)
+        got.back.n += (size_t)n;
+    close(ends[0]);
+    if (apart)
+        must(waitpid(child, &status, 0) == child && status == 0, "the peer wrote it all");
+}
+
+/* A requestor, whose peer is a host of our own in another process. */
+static void asks(const char *called, const uint8_t *command, size_t n, int connects)
+{
+    static struct line l;
+    int ends[2], status;
+    pid_t child;
+    memset(&got, 0, sizeof got);
+    must(socketpair(AF_UNIX, SOCK_STREAM, 0, ends) == 0 && (child = fork()) >= 0, "a pair of sockets, a child");
+    l.fd = ends[child != 0];
+    close(ends[child == 0]);
+    ticking(1500);
+    if (child == 0) {
+        serve(&l);
+        must(got.fragments == n && got.lasts == (n != 0) && got.sum == summed(0, command, n), "the peer has it all");
+        _exit(0);
+    }
+    if (!connects) {
+        close(l.fd);
+        l.fd = -1;
+    }
+    deliver(&l, called, "NIGHT-SCANNER   ", command, n);
+    ticking(0);
+    must(waitpid(child, &status, 0) == child && status == 0, "the peer is content");
+}
+
+static int sees(const char *actions)
+{
+    return strcmp(got.seen, actions) == 0 && got.refusals[0] == 0;
+}
+
+static int comes_back(const struct bytes *b)
+{
+    return got.back.n == b->n && memcmp(got.back.at, b->at, b->n) == 0;
+}
+
+/* ---- the tests */
+
+static struct bytes rq, all, back, pdu;
+
+/* A request, data of 5,000 and 17 bytes, a release; and what is to come back. */
+static void association(void)
+{
+    request(&rq, 1, APPLICATION, ECHO_CLASS, IMPLICIT);
+    all.n = 0;
+    add(&all, rq.at, rq.n);
     data(&pdu, 1, 3, 5000);
     add(&all, pdu.at, pdu.n);
     data(&pdu, 1, 2, 17);
     add(&all, pdu.at, pdu.n);
     ten(&pdu, 5, 0, 0, 0, 0);
     add(&all, pdu.at, pdu.n);
-    talk(&all, 1, &back);
-    acceptance(&ac, 1, 0, 16384);
+    acceptance(&back, 1, 0, 16384);
     ten(&pdu, 6, 0, 0, 0, 0);
-    add(&ac, pdu.at, pdu.n);
-    must(strcmp(seen, "AE-5 AE-6 AE-7 DT-2 DT-2 AR-2 AR-4 AR-5 ") == 0, "the actions of an association");
-    must(fragments == 5017, "the data");
-    must(back.n == ac.n && memcmp(back.at, ac.at, ac.n) == 0, "an AC and a RELEASE-RP come back");
+    add(&back, pdu.at, pdu.n);
+}
 
+static void is_served(const char *how)
+{
+    must(sees("AE-5 AE-6 AE-7 DT-2 DT-2 AR-2 AR-4 AR-5 ") && got.fragments == 5017 && comes_back(&back), how);
+}
+
+static void served(void)
+{
+    static const struct peer slow = { 150, 0, SHUTS };
+    talk(&all, AT_ONCE, 0);
+    is_served("an association");
+    talk(&all, slow, 0);
+    is_served("piece by piece");
+    talk(&all, slow, 1500);
+    is_served("piece by piece, with signals");
+    must(faults.signals >= 10, "the signals interrupted poll");
+    faults.interrupt = 1;
+    faults.most_in = faults.most_out = 7;
+    talk(&all, AT_ONCE, 0);
+    is_served("every call interrupted and cut short");
+    must(faults.polls > 1000 && faults.recvs > 1000 && faults.sends > 20, "they were");
+    faults.interrupt = 0;
+    faults.most_in = faults.most_out = 0;
+}
+
+/* Data that comes in the same read as the request is taken as data that comes in a later one is. */
+static void in_one_read(void)
+{
+    const struct peer later = { 0, rq.n, SHUTS };
+    static struct outcome once;
     all.n = 0;
-    talk(&all, 1, &back);
-    must(strcmp(seen, "AE-5 AA-5 ") == 0 && back.n == 0, "nothing comes, and it is closed");
+    add(&all, rq.at, rq.n);
+    data(&pdu, 1, 3, 100);
+    add(&all, pdu.at, pdu.n);
+    ten(&pdu, 5, 0, 0, 0, 0);
+    add(&all, pdu.at, pdu.n);
+    data(&pdu, 1, 3, 100);
+    add(&all, pdu.at, pdu.n);
+    talk(&all, AT_ONCE, 0);
+    must(sees("AE-5 AE-6 AE-7 DT-2 AR-2 AR-4 AA-6 AR-5 ") && got.fragments == 100, "request, data, release, data in one read");
+    once = got;
+    talk(&all, later, 0);
+    must(sees(once.seen) && got.fragments == 100 && comes_back(&once.back), "data in a later read");
+    faults.most_in = 1;
+    talk(&all, AT_ONCE, 0);
+    must(sees(once.seen) && got.fragments == 100 && comes_back(&once.back), "a byte in each read");
+    faults.most_in = 0;
+    association();
+}
+
+/* Two contexts with two transfer syntaxes each. */
+static void two_contexts(struct bytes *to)
+{
+    static const char *const transfers[2] = { IMPLICIT, "1.2.840.10008.1.2.1" };
+    static struct bytes b, context;
+    size_t i;
+    b.n = 0;
+    add_fixed(&b, 1);
+    add_name(&b, 0x10, APPLICATION);
+    for (i = 0; i < 2; i++) {
+        context.n = 0;
+        add_four(&context, i == 0 ? 0x01000000 : 0x07000000);
+        add_name(&context, 0x30, ECHO_CLASS);
+        add_name(&context, 0x40, transfers[i]);
+        add_name(&context, 0x40, transfers[1 - i]);
+        add_item(&b, 0x20, context.at, context.n);
+    }
+    add_user(&b, 16384);
+    whole(to, 1, &b);
+}
+
+/* The first transfer syntax of each context is taken; another application context or title is rejected. */
+static void answered(void)
+{
+    uint8_t sheet[3 * FEO_RECORD_LEN];
+    struct feo_associate f;
+    two_contexts(&all);
+    talk(&all, AT_ONCE, 0);
+    must(sees("AE-5 AE-6 AE-7 AA-4 ") && feo_read_accept(got.back.at, got.back.n, sheet, sizeof sheet, &f) == 0, "two contexts");
+    pdu.n = 0;
+    add_record(&pdu, 1, 0, "", IMPLICIT);
+    add_record(&pdu, 7, 0, "", "1.2.840.10008.1.2.1");
+    must(f.records == 2 && memcmp(sheet, pdu.at, pdu.n) == 0, "each with the first transfer syntax");
+    request(&all, 1, "1.2.840.10008.3.1.1.2", ECHO_CLASS, IMPLICIT);
+    talk(&all, AT_ONCE, 0);
+    ten(&pdu, 3, 0, 1, 1, 2);
+    must(sees("AE-5 AE-6 AE-8 AR-5 ") && comes_back(&pdu), "another application context");
+    all = rq;
+    memcpy(all.at + FEO_CALLED_AT, "STORE-EXOTICS   ", FEO_TITLE_LEN);
+    talk(&all, AT_ONCE, 0);
+    ten(&pdu, 3, 0, 1, 1, 7);
+    must(sees("AE-5 AE-6 AE-8 AR-5 ") && comes_back(&pdu), "another called title");
+    own_len = 31;
+    talk(&rq, AT_ONCE, 0);
+    own_len = 32;
+    must(
+        strcmp(got.seen, "AE-5 AE-6 AA-1 AR-5 ") == 0 && strcmp(got.refusals, "feo_title_known: bad contents. ") == 0,
+        "where it cannot be answered it is aborted");
+    association();
+}
+
+static uint8_t sleeps_at;
+
+static void sleeps(struct line *l, uint8_t action)
+{
+    (void)l;
+    faults.ms += action == sleeps_at ? ARTIM_MS + 5000 : 0;
+}
+
+static void a_second(struct line *l, uint8_t action)
+{
+    (void)l;
+    (void)action;
+    faults.ms += 1000;
+}
+
+static void times(void)
+{
+    static const struct peer stays = { 0, 0, STAYS };
+    static const int64_t due[6] = { 30, 31, 31, 31, 31, 31 };
+    size_t i;
+    faults.own_clock = 1;
+    all.n = 0;
+    talk(&all, AT_ONCE, 0);
+    must(sees("AE-5 AA-5 ") && got.back.n == 0, "nothing comes, and it is closed");
     add(&all, "\1\0\0", 3);
-    talk(&all, 0, &back);
-    must(strcmp(seen, "AE-5 AA-2 ") == 0 && back.n == 0, "the timer expires");
-    printf("the loop of docs/HOST.md serves an association\n");
+    talk(&all, stays, 0);
+    must(sees("AE-5 AA-2 ") && got.back.n == 0 && faults.ms == 1000000 + ARTIM_MS, "the timer expires");
+    faults.interrupt = 1;
+    talk(&all, stays, 0);
+    must(sees("AE-5 AA-2 ") && faults.ms == 1000000 + ARTIM_MS, "the timer expires, with interrupted calls");
+    faults.interrupt = 0;
+    all.n = 0;
+    faults.wakes = 1;
+    talk(&all, stays, 0);
+    must(sees("AE-5 AA-2 ") && faults.ms == 1000000 + ARTIM_MS, "the timer expires, though poll woke for nothing");
+    besides = sleeps;
+    sleeps_at = FEO_AE_5;
+    talk(&all, stays, 0);
+    must(sees("AE-5 AA-2 ") && faults.ms == 1000000 + ARTIM_MS + 5000, "the timer has expired long ago");
+    besides = a_second;
+    /* in Sta2 a release: AA-1; in Sta13 two more and an unknown type: AA-6, AA-6, AA-7. The timer starts at AE-5 and AA-1 alone. */
+    all.n = 0;
+    ten(&pdu, 5, 0, 0, 0, 0);
+    for (i = 0; i < 3; i++)
+        add(&all, pdu.at, pdu.n);
+    ten(&pdu, 8, 0, 0, 0, 0);
+    add(&all, pdu.at, pdu.n);
+    talk(&all, stays, 0);
+    must(sees("AE-5 AA-1 AA-6 AA-6 AA-7 AA-2 ") && got.back.n == 20, "bytes in Sta13");
+    for (i = 0; i < 6; i++)
+        must(got.due[i] == 1000000 + due[i] * 1000, "the timer starts where it is to");
+    /* a peer that goes on sending is not heard for ever */
+    besides = sleeps;
+    sleeps_at = FEO_AA_1;
+    faults.most_in = 10;
+    talk(&all, stays, 0);
+    must(sees("AE-5 AA-1 AA-2 "), "the timer comes before bytes that are there");
+    besides = NULL;
+    faults.most_in = 0;
+    talk(&rq, stays, 0);
+    must(sees("AE-5 AE-6 AE-7 AA-1 AA-2 ") && faults.ms == 1000000 + QUIET_MS + ARTIM_MS, "a peer that is silent");
+    faults.own_clock = 0;
+    association();
+}
+
+static void sends_much(struct line *l, uint8_t action)
+{
+    static const uint8_t zero[100000];
+    int room = 5000;
+    if (action != FEO_AE_7)
+        return;
+    must(setsockopt(l->fd, SOL_SOCKET, SO_SNDBUF, &room, sizeof room) == 0, "little room");
+    must(send_set(l, 1, 0, zero, sizeof zero), "data is sent");
+}
+
+/* The peer goes, or does not read, while we send. SIGPIPE would end the test. */
+static void goes(void)
+{
+    static const struct peer closes = { 0, 0, CLOSES }, stays = { 0, 0, STAYS };
+    talk(&rq, closes, 0);
+    must(sees("AE-5 AE-6 AE-7 AA-4 "), "the peer has gone when the AC is sent");
+    all = rq;
+    ten(&pdu, 7, 0, 0, 0, 0);
+    add(&all, pdu.at, pdu.n);
+    faults.most_in = 100;
+    talk(&all, closes, 0);
+    must(sees("AE-5 AE-6 AE-7 AA-3 "), "its abort is still read");
+    faults.most_in = 0;
+    faults.own_clock = 1;
+    besides = sends_much;
+    talk(&rq, stays, 0);
+    must(sees("AE-5 AE-6 AE-7 DT-1 DT-1 DT-1 DT-1 DT-1 DT-1 DT-1 AA-4 ") && faults.ms == 1000000 + SEND_MS, "the peer does not read");
+    besides = NULL;
+    faults.own_clock = 0;
+    association();
+}
+
+static void requestor(void)
+{
+    static uint8_t command[40000];
+    size_t i;
+    for (i = 0; i < sizeof command; i++)
+        command[i] = (uint8_t)(i * i >> 3);
+    asks("STORE-EQUINE    ", command, sizeof command, 1);
+    must(sees("AE-1 AE-2 AE-3 DT-1 DT-1 DT-1 AR-1 AR-3 "), "a requestor");
+    asks("STORE-EQUINE    ", command, 1, 1);
+    must(sees("AE-1 AE-2 AE-3 DT-1 AR-1 AR-3 "), "a command of one byte");
+    asks("STORE-EQUUS     ", command, 0, 1);
+    must(sees("AE-1 AE-2 AE-4 "), "a requestor that is rejected");
+    asks("STORE-EQUINE    ", command, 0, 0);
+    must(sees("AE-1 AA-4 "), "a connection that is not there");
+    asks("BACK\\SLASH      ", command, 0, 1);
+    must(
+        strcmp(got.seen, "AE-1 AA-2 ") == 0 && strcmp(got.refusals, "feo_confirm: bad contents. ") == 0,
+        "a title that may not be sent is told, and ends it");
+}
+
+/* A peer that takes no byte of data in a P-DATA-TF. */
+static void no_room(void)
+{
+    static struct line l;
+    int ends[2];
+    memset(&got, 0, sizeof got);
+    acceptance(&pdu, 1, 0, 6);
+    must(socketpair(AF_UNIX, SOCK_STREAM, 0, ends) == 0 && write(ends[0], pdu.at, pdu.n) == (ssize_t)pdu.n, "an AC is there");
+    must(shutdown(ends[0], SHUT_WR) == 0, "and nothing else");
+    l.fd = ends[1];
+    deliver(&l, "STORE-EQUINE    ", "NIGHT-SCANNER   ", (const uint8_t *)"x", 1);
+    close(ends[0]);
+    must(
+        strcmp(got.seen, "AE-1 AE-2 AE-3 AA-1 AR-5 ") == 0 && strcmp(got.refusals, "feo_fragment_max: PDU too long. ") == 0,
+        "no room for data is told, and ends it");
+}
+
+static void fails_at_once(void)
+{
+    static struct line l;
+    int ends[2];
+    faults.poll_error = ENOMEM;
+    talk(&rq, AT_ONCE, 0);
+    must(sees("AE-5 AA-5 "), "poll fails");
+    faults.poll_error = 0;
+    faults.recv_error = ECONNRESET;
+    talk(&rq, AT_ONCE, 0);
+    must(sees("AE-5 AA-5 "), "recv fails");
+    faults.recv_error = 0;
+    memset(&got, 0, sizeof got);
+    must(socketpair(AF_UNIX, SOCK_STREAM, 0, ends) == 0 && close(ends[0]) == 0 && close(ends[1]) == 0, "a socket that is closed");
+    l.fd = ends[1];
+    serve(&l);
+    must(sees("AE-5 AA-5 "), "the socket is none");
+}
+
+static void too_early(struct line *l, uint8_t action)
+{
+    if (action == FEO_AE_7)
+        must(!tell(l, FEO_RELEASE_RESPONSE) && l->a.state == FEO_STA_6, "a response to nothing is refused");
+}
+
+/* A fault of the host's memory: deaf is for Sta13 alone. */
+static uint8_t breaks_at;
+
+static void breaks(struct line *l, uint8_t action)
+{
+    if (action == breaks_at)
+        l->a.deaf = 1;
+}
+
+/* A refusal is told, and where the box cannot go on the loop ends. */
+static void refusals(void)
+{
+    besides = too_early;
+    talk(&all, AT_ONCE, 0);
+    must(strcmp(got.refusals, "feo_event: blank cell of Table 9-10. ") == 0, "a refused event is told");
+    got.refusals[0] = 0;
+    is_served("an association with a refused event");
+    besides = breaks;
+    breaks_at = FEO_AE_7;
+    talk(&all, AT_ONCE, 0);
+    must(strcmp(got.refusals, "feo_receive: broken record. ") == 0, "refused bytes are told, and end it");
+    talk(&rq, AT_ONCE, 0);
+    must(strcmp(got.refusals, "feo_event: broken record. ") == 0, "so is a refused end");
+    breaks_at = FEO_AE_6;
+    talk(&rq, AT_ONCE, 0);
+    must(
+        strcmp(got.refusals, "feo_accept: broken record. feo_event: broken record. feo_event: broken record. ") == 0,
+        "and a refused answer, with the abort in its place");
+    besides = NULL;
+}
+
+int main(void)
+{
+    association();
+    served();
+    in_one_read();
+    answered();
+    times();
+    goes();
+    requestor();
+    no_room();
+    fails_at_once();
+    refusals();
+    printf("the loop of docs/HOST.md serves an association, with signals, faults and refusals\n");
     return 0;
 }
