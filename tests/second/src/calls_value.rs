@@ -121,7 +121,11 @@ impl Generator {
     /// One PDV item on an edge, the edges in turn, with and without bytes behind it; seldom asked for far away.
     pub fn one_item(&mut self) {
         let (edge, more) = self.items.take();
-        let place = if edge == 0 { self.random.below(6) } else { self.random.pick(&[6, 6, 6, 7, 12]) };
+        let place = match (edge, more) {
+            (0, 0) => 5,
+            (0, _) => self.random.below(5),
+            _ => self.random.pick(&[6, 6, 6, 7, 12]),
+        };
         let mut pdv = good_pdv(&mut self.random);
         self.item_edge(edge, &mut pdv);
         let plan = DataPlan { reserved: 0, pdvs: vec![pdv], tail: Vec::new(), slip: 0 };
