@@ -3,7 +3,7 @@
 use crate::contents::title_of_other_length;
 use crate::fields::{pdv_at, read_ac, read_rq};
 use crate::generate::{ac_words, hex, rq_words, Generator};
-use crate::make::{bad_name, bad_title, good_data, good_name, good_pdv, good_title, name_of_length, DataPlan};
+use crate::make::{bad_name, bad_title, good_data, good_name, good_pdv, good_title, name_of_length, DataPlan, PdvPlan};
 use crate::pdus::some_pdu;
 use crate::write;
 
@@ -92,7 +92,7 @@ impl Generator {
     pub fn call_p(&mut self) {
         match self.random.below(5) {
             0 => self.all_places(),
-            1 | 2 => self.one_item(),
+            1..=3 => self.one_item(),
             _ => {
                 let bytes = self.pdu_mostly(4);
                 let place = self.some_place(bytes.len() as u64);
@@ -118,26 +118,51 @@ impl Generator {
         }
     }
 
-    /// One PDV item on an edge, behind as many bytes as a header has, or more or fewer; asked for where it starts.
+    /// One PDV item on an edge, the edges in turn, with and without bytes behind it; seldom asked for far away.
     pub fn one_item(&mut self) {
-        let place = self.random.pick(&[0, 2, 5, 6, 6, 6, 6, 7, 12]);
-        let mut bytes = self.random.bytes(place);
+        let (edge, more) = self.items.take();
+        let place = match (edge, more) {
+            (0, 0) => 5,
+            (0, _) => self.random.below(5),
+            _ => self.random.pick(&[6, 6, 6, 7, 12]),
+        };
         let mut pdv = good_pdv(&mut self.random);
+        self.item_edge(edge, &mut pdv);
+        let plan = DataPlan { reserved: 0, pdvs: vec![pdv], tail: Vec::new(), slip: 0 };
+        let mut bytes = self.random.bytes(place);
+        bytes.extend(plan.items());
+        match (edge, more) {
+            (1, 0) => bytes.truncate(place + self.random.below(4)),
+            (1, _) => bytes.truncate(self.random.pick(&[place + 4, place + 5, bytes.len() - 1, bytes.len() - 1])),
+            (8, _) | (_, 0) => {}
+            _ => bytes.extend(good_data(&mut self.random).items()),
+        }
+        let asked = match edge {
+            2 => place as u64 + self.random.pick(&[1 << 16, 1 << 32, 1 << 32, 1 << 33, 1 << 63, 1 << 63]),
+            3 => u64::MAX - self.random.pick(&[0, 1, 3, 5, 6, 9]),
+            _ => place as u64,
+        };
+        self.say(format!("P {} {}", hex(&bytes), asked));
+    }
+
+    /// The edges 4 to 15 of a PDV item; 0 is a place below 6, 1 a cut, 2 and 3 are far places.
+    pub fn item_edge(&mut self, edge: u8, pdv: &mut PdvPlan) {
         let length = pdv.true_length();
-        match self.random.below(6) {
-            0 => pdv.id -= 1,
-            1 => pdv.length = Some(length + 1),
-            2 => pdv.length = Some(length - 1),
-            3 => pdv.length = Some(self.random.pick(&[0, 1, 1, 2, 3, u32::MAX])),
+        match edge {
+            4 => pdv.id = self.random.pick(&[0, 2, 128, 254]),
+            5 => pdv.length = Some(0),
+            6 => pdv.length = Some(1),
+            7 => pdv.length = Some(2),
+            8 => pdv.length = Some(length + 1),
+            9 => pdv.length = Some(length - 1),
+            10 => pdv.length = Some(length + self.random.pick(&[0x100, 0x1_0000, 0x100_0000, 0x8000_0000])),
+            11 => pdv.length = Some(length.swap_bytes()),
+            12 => pdv.length = Some(u32::MAX - self.random.pick(&[0, 1, 3, 5, 9])),
+            13 => pdv.fragment.clear(),
+            14 => pdv.control = self.random.pick(&[4, 0x80, 0xfc, 0xff]),
+            15 => pdv.id = 255,
             _ => {}
         }
-        let plan = DataPlan { reserved: 0, pdvs: vec![pdv], tail: Vec::new(), slip: 0 };
-        bytes.extend(plan.items());
-        if self.random.chance(10) {
-            let left = self.random.below(bytes.len());
-            bytes.truncate(left);
-        }
-        self.say(format!("P {} {}", hex(&bytes), place));
     }
 
     /// A place within the PDU, at its ends, or far away.

@@ -1,6 +1,6 @@
 //! Reading calls: the fields of a whole valid PDU of the kind asked for.
 
-use crate::items::{first_pdv, Pdv};
+use crate::items::Pdv;
 use crate::valid::{judge, Associate, Context, Pdu};
 
 /// Bytes of one record of the context sheet.
@@ -116,13 +116,22 @@ pub fn read_pdv(bytes: &[u8], number: u64) -> Result<Part<'_>, u8> {
     }
 }
 
-/// The PDV item at a place behind the header, whatever else the PDU is.
+/// The PDV item that stands at a place, by itself: its length, and the ID, control byte and fragment that this counts.
 pub fn pdv_at(bytes: &[u8], place: u64) -> Result<Part<'_>, u8> {
-    if place < 6 || place > bytes.len() as u64 {
+    if place < 6 || place >= bytes.len() as u64 {
         return Err(4);
     }
     let place = place as usize;
-    first_pdv(&bytes[place..], place).map(|(pdv, _)| part(&pdv)).map_err(|_| 4)
+    let (length, behind) = match &bytes[place..] {
+        [a, b, c, d, behind @ ..] => (u32::from_be_bytes([*a, *b, *c, *d]), behind),
+        _ => return Err(4),
+    };
+    match behind.get(..length as usize) {
+        Some([id, control, fragment @ ..]) if id % 2 == 1 => {
+            Ok(Part { id: *id, control: *control, start: place + 6, length: fragment.len(), fragment })
+        }
+        _ => Err(4),
+    }
 }
 
 fn part<'a>(pdv: &Pdv<'a>) -> Part<'a> {

@@ -138,6 +138,7 @@ pub struct Generator {
     pub full: Turns,
     pub rejects: Turns,
     pub aborts: Turns,
+    pub items: Turns,
     pub calls: VecDeque<Call>,
 }
 
@@ -154,6 +155,8 @@ impl Generator {
         let full = Turns::new(pairs(&[0, 1, 2, 3, 4, 5, 6, 7, 8, 9, 10], &[0, 1]), &mut random);
         let rejects = Turns::new(pairs(&[0, 1, 2, 3, 4], &[0, 1, 2, 3, 4, 5, 6, 7, 8, 255]), &mut random);
         let aborts = Turns::new(pairs(&[0, 1, 2, 2, 3], &[0, 1, 2, 3, 4, 5, 6, 7, 255]), &mut random);
+        let edges: Vec<u8> = (0..=15).collect();
+        let items = Turns::new(pairs(&edges, &[0, 1]), &mut random);
         let mut generator = Generator {
             random,
             marks: Marks::default(),
@@ -165,6 +168,7 @@ impl Generator {
             full,
             rejects,
             aborts,
+            items,
             calls: VecDeque::new(),
         };
         generator.first_calls();

@@ -75,8 +75,7 @@ pub fn split_pdvs(bytes: &[u8], at: usize) -> Result<Vec<Pdv<'_>>, Fault> {
     Ok(pdvs)
 }
 
-/// The PDV item that stands first in bytes that stand at `place` in the PDU, and the bytes behind it.
-pub fn first_pdv(bytes: &[u8], place: usize) -> Result<(Pdv<'_>, &[u8]), Fault> {
+fn first_pdv(bytes: &[u8], place: usize) -> Result<(Pdv<'_>, &[u8]), Fault> {
     if bytes.len() < 4 {
         return Err("a remainder too short for a PDV item");
     }

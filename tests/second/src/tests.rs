@@ -481,6 +481,110 @@ fn pdv_by_place() {
     assert_eq!(pdv_at(&[], 6), Err(4));
 }
 
+/// 04H with two PDVs; the places of the items are 6 and 14.
+const TWO_PDVS: [u8; 22] = [4, 0, 0, 0, 0, 16, 0, 0, 0, 4, 1, 3, 0xaa, 0xbb, 0, 0, 0, 4, 3, 2, 0xcc, 0xdd];
+
+/// ID, control byte, start and length of the PDV item at a place.
+fn placed(bytes: &[u8], place: u64) -> Result<(u8, u8, usize, usize), u8> {
+    let part = pdv_at(bytes, place)?;
+    assert_eq!(part.fragment, &bytes[part.start..part.start + part.length]);
+    Ok((part.id, part.control, part.start, part.length))
+}
+
+/// Thirteen bytes: a header, an item's length field, and three bytes for it to count.
+fn thirteen(length: u32) -> Vec<u8> {
+    [&[4, 0, 0, 0, 0, 7][..], &length.to_be_bytes(), &[1, 3, 0xaa]].concat()
+}
+
+#[test]
+fn places_of_two_pdvs() {
+    assert_eq!(placed(&TWO_PDVS, 6), Ok((1, 3, 12, 2)));
+    assert_eq!(placed(&TWO_PDVS, 14), Ok((3, 2, 20, 2)));
+    let far = [(1 << 32) + 6, (1 << 32) + 14, 1 << 63, (1 << 63) + 6];
+    for place in (0..6).chain(7..14).chain(15..40).chain(far).chain((0..16).map(|less| u64::MAX - less)) {
+        assert_eq!(placed(&TWO_PDVS, place), Err(4), "{}", place);
+        let answer = Replay::new().answer(&format!("P {} {}", hex(&TWO_PDVS), place));
+        assert_eq!(answer, "4 0 0 0 0");
+    }
+    assert_eq!(Replay::new().answer(&format!("P {} 14", hex(&TWO_PDVS))), "0 3 2 20 2");
+    for place in [0, 1, 5, 6, 7, 1 << 32, 1 << 63, u64::MAX - 5, u64::MAX] {
+        assert_eq!(placed(&[], place), Err(4));
+    }
+}
+
+#[test]
+fn a_whole_item_below_place_6_is_refused() {
+    for place in 0..12usize {
+        let bytes = [&vec![0; place][..], &[0, 0, 0, 3, 1, 3, 0xaa]].concat();
+        let expected = if place < 6 { Err(4) } else { Ok((1, 3, place + 6, 1)) };
+        assert_eq!(placed(&bytes, place as u64), expected);
+    }
+}
+
+#[test]
+fn lengths_of_a_placed_pdv() {
+    assert_eq!(placed(&thirteen(3), 6), Ok((1, 3, 12, 1)));
+    assert_eq!(placed(&thirteen(2), 6), Ok((1, 3, 12, 0)));
+    assert_eq!(placed(&thirteen(2)[..12], 6), Ok((1, 3, 12, 0)));
+    for length in [0, 1, 4, 5, 0x0000_0103, 0x0001_0003, 0x0100_0003, 0x0300_0000, 0x7fff_ffff, 0x8000_0003] {
+        assert_eq!(placed(&thirteen(length), 6), Err(4), "{:x}", length);
+    }
+    for less in 0..16 {
+        assert_eq!(placed(&thirteen(u32::MAX - less), 6), Err(4), "2^32 - 1 - {}", less);
+    }
+    // Cut anywhere, and lengths 0 and 1 that end the bytes.
+    for left in 0..13 {
+        assert_eq!(placed(&thirteen(3)[..left], 6), Err(4), "{} bytes", left);
+    }
+    assert_eq!((placed(&thirteen(0)[..10], 6), placed(&thirteen(1)[..11], 6)), (Err(4), Err(4)));
+}
+
+#[test]
+fn ids_controls_and_headers_of_a_placed_pdv() {
+    let mut bytes = thirteen(3);
+    for id in 0..=255u8 {
+        bytes[10] = id;
+        assert_eq!(placed(&bytes, 6), if id % 2 == 0 { Err(4) } else { Ok((id, 3, 12, 1)) });
+    }
+    for control in 0..=255u8 {
+        bytes[11] = control;
+        assert_eq!(placed(&bytes, 6), Ok((255, control, 12, 1)));
+    }
+    for header in [[1, 0, 0, 0, 0, 7], [4, 0, 0, 0, 0, 0], [0; 6], [0xff; 6]] {
+        bytes[..6].copy_from_slice(&header);
+        assert_eq!(placed(&bytes, 6), Ok((255, 255, 12, 1)));
+    }
+}
+
+#[test]
+fn a_long_placed_pdv() {
+    let mut bytes = vec![4, 0, 0, 0, 0x40, 0, 0, 0, 0x42, 0x5e];
+    bytes.resize(17_000, 1);
+    assert_eq!(placed(&bytes, 6), Ok((1, 1, 12, 16_988)));
+    bytes[9] += 1;
+    assert_eq!(placed(&bytes, 6), Err(4));
+    bytes.resize(70_000, 1);
+    bytes[6..10].copy_from_slice(&69_990u32.to_be_bytes());
+    assert_eq!(placed(&bytes, 6), Ok((1, 1, 12, 69_988)));
+    bytes[65_540..65_544].copy_from_slice(&[0, 0, 0, 5]);
+    assert_eq!(placed(&bytes, 65_540), Ok((1, 1, 65_546, 3)));
+}
+
+#[test]
+fn places_walk_through_a_valid_pdu_as_numbers_do() {
+    let mut random = Random::new(5);
+    for _ in 0..500 {
+        let bytes = good_data(&mut random).bytes();
+        let (mut place, mut number) = (6, 0);
+        while let Ok(part) = read_pdv(&bytes, number) {
+            assert_eq!(pdv_at(&bytes, place), Ok(part));
+            place = (part.start + part.length) as u64;
+            number += 1;
+        }
+        assert_eq!((place, pdv_at(&bytes, place)), (bytes.len() as u64, Err(4)));
+    }
+}
+
 #[test]
 fn title_check_looks_at_the_whole_list() {
     let own = [EQUINE, EXOTIC].concat();
