@@ -1,15 +1,15 @@
 /*
  * Feohanna: the DICOM upper layer (PS3.8) for a host in C. Link with libfeohanna.a (x86-64 Linux).
  *
- * The host has the sockets and the clock; docs/HOST.md says what each action asks of it. No call keeps state or allocates: all
- * memory is the host's and is lent for the call alone.
+ * The host has the sockets and the clock; docs/HOST.md of the sources says what each action asks of it. No call keeps state or
+ * allocates: all memory is the host's and is lent for the call alone.
  *
  * The host's duties: pointers are valid for the lengths passed with them, and the buffers of one call, the association and the
  * answer among them, do not overlap, but for two that the call only reads. NULL with length 0 is an empty buffer. Whatever else a
  * host passes, the call is defined.
  *
- * Each call returns its refusal, 0 for none. A refused call stores nothing in *a nor in any buffer, and the numbers that it hands
- * out are 0. An answered call writes what is to be sent at the start of out and changes no byte beyond it.
+ * The calls that return uint8_t return their refusal, 0 for none. A refused call stores nothing in *a nor in any buffer, and the
+ * numbers that it hands out are 0. An answered call writes what is to be sent at the start of out and changes no byte beyond it.
  */
 #ifndef FEOHANNA_H
 #define FEOHANNA_H
@@ -114,7 +114,7 @@ enum feo_refusal_number {
     FEO_SHORT_GATHER = 3,   /* gather is shorter than FEO_BUFFER when receiving, or than the gathered count at a local event */
     FEO_BAD_CONTENTS = 4,   /* bad contents of a local request, title list, sought title, PDV number or place, or sheet */
     FEO_LONG_PDU = 5,       /* PDU-length to be sent above 16,384, or a P-DATA-TF's above a non-zero peer maximum */
-    FEO_BROKEN_RECORD = 6,  /* no call leaves such an association: it was not made by FEO_FRESH, or was written to */
+    FEO_BROKEN_RECORD = 6,  /* no call leaves such an association, or such a PDU begun in gather: one was written to or exchanged */
     FEO_NO_SUCH_PDU = 7     /* the bytes are no whole valid PDU of the kind that is read */
 };
 
@@ -226,7 +226,7 @@ struct feo_associate {
 /* A fresh association: struct feo_assoc a = FEO_FRESH; */
 #define FEO_FRESH { 1, 0, 0, 0, 0, 0 }
 
-/* The proved functions. They take the association as its bytes, and hand action, used, sent and shown out. Hosts call the ones below. */
+/* The proved functions. They take an association as its bytes; answer: action, used, sent, shown. Hosts call the ones below. */
 #ifdef __cplusplus
 extern "C" {
 #endif
@@ -297,9 +297,10 @@ static inline void feo_fresh(struct feo_assoc *a)
 }
 
 /*
- * Bytes were received: uses them through the one that completes a PDU, else all of them, and says how many. Offer what is left
- * again: behind the response to that PDU, where it asks for one (accept, reject, release), and before any other local event.
- * gather: FEO_BUFFER bytes or more, the same ones at each call, that the host leaves alone.
+ * Bytes were received: uses them through the one that completes a PDU, or a header with a length above FEO_LONGEST, else all of
+ * them, and says how many. Offer what is left again: behind the response to that PDU, where it asks for one (accept, reject,
+ * release), and before any other local event. gather: FEO_BUFFER bytes or more, the same ones at each call, that the host leaves
+ * alone.
  */
 static inline uint8_t feo_receive(
     struct feo_assoc *a, uint8_t *gather, size_t gather_len, const uint8_t *piece, size_t piece_len, uint8_t *out, size_t out_len,

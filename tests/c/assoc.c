@@ -96,7 +96,7 @@ static void answered(void)
     IS("\6\0\0\1\x04\x03\x02\x81\0\0\0\0\0\0\0\0");
     CHECK(event(FEO_RELEASE_REQUEST) == 0 && r.action == FEO_AR_1);
     IS("\7\0\0\1\x04\x03\x02\x81\0\0\0\0\0\0\0\0");
-    /* and of the count, as far as there may be bytes: 10 of a P-DATA-TF with a PDU-length of 16,384 are gathered */
+    /* and of the count: all bytes but one of a P-DATA-TF with a PDU-length of 16,384 are gathered */
     memcpy(gather, "\x04\0\0\0\x40\0", 6);
     given("\6\0\0\0\x00\x40\0\0\x05\x40\0\0\0\0\0\0");
     CHECK(receive(FEO_BUFFER, FEO_BUFFER) == 0 && lent.a.gathered == 16389 && lent.a.peer_max == 16384);

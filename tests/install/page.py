@@ -17,7 +17,7 @@ def fields(text):
     found = {}
     for name, body in re.findall(r"struct (\w+) \{([^}]*)\}", text):
         lines = [re.match(r"(\S+) (.+)", line.strip()).groups() for line in body.split(";") if line.strip()]
-        found[name] = sorted(f"{kind} {field.strip()}" for kind, names in lines for field in names.split(","))
+        found[name] = [f"{kind} {field.strip()}" for kind, names in lines for field in names.split(",")]
     return found
 
 

@@ -1,7 +1,7 @@
 """Holds the numbers that have a name to one value: as a constant of the code, in the definitions (a dash for each underscore) and in include/feohanna.h (FEO_ before it).
 
 Where a crate has a name in both its code and its definitions, the values are equal; refusals, kinds, lengths, actions and events stand in both. The header's refusals, actions and
-events are those of the code, and it has every length of the code but TEN, some with _LEN behind the name.
+events are those of the code, and it has every length of the code but TEN, some with _LEN behind the name; the rooms of its sheets are those that reading proves to be enough.
 """
 import glob
 import re
@@ -11,6 +11,7 @@ CONSTANT = re.compile(r"^\s*pub const ([A-Z][A-Z0-9_]*): \w+ = (0x[0-9a-fA-F]+|\
 DEFINED = re.compile(r"^abbrev pub ([A-Z][A-Z0-9-]*|····) : ℕ\n\1 = (0x[0-9a-fA-F]+|\d+)$", re.M)
 HEADER = "include/feohanna.h"
 LENGTHS = "crates/numbers/src/lengths.rt"
+ROOM = "crates/reading/proofs/Room.antt"
 BOTH = [
     ("crates/numbers/src/refusals.rt", "crates/numbers/specs/Refusals.antt"),
     ("crates/numbers/src/kinds.rt", "crates/numbers/specs/Kinds.antt"),
@@ -48,6 +49,11 @@ def macros():
     return {n: int(v) for n, v in re.findall(r"^#define FEO_(\w+?)(?:_LEN)? (\d+)$", read(HEADER), re.M)}
 
 
+def rooms(path, pattern):
+    """the most records of a proposal's and of an answer's sheet"""
+    return {name.upper(): int(most) for name, most in re.findall(pattern, read(path), re.M)}
+
+
 def main():
     wrong, compared = [], 0
 
@@ -71,6 +77,7 @@ def main():
     lengths = {name: value for name, value in named(CONSTANT, [LENGTHS]).items() if name != "TEN"}
     header = [(source, named(CONSTANT, [source]), enum(name), f"{HEADER}, {name}") for source, name in ENUMS]
     header.append((LENGTHS, lengths, {name: value for name, value in macros().items() if name in lengths}, HEADER))
+    header.append((ROOM, rooms(ROOM, r"^pub (\w+)-most : .* ≤ 132 \* (\d+)$"), rooms(HEADER, r"^#define FEO_(\w+)_ROOM \(FEO_RECORD_LEN \* (\d+)\)$"), HEADER))
     for pair in header:
         same(*pair)
         both(*pair)

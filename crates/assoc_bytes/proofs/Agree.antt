@@ -15,4 +15,4 @@ pub bytes-of-agrees : Agrees 0 bytes-of.Kinds.ps bytes-of.Kinds.r bytes-of.Reads
 bytes-of-agrees κs args a b x y p q = agree p q
 
 pub hand-out-agrees : AgreesLent {L = List ℕ × List ℕ} 2 hand-out.Kinds.ps hand-out.Kinds.r hand-out.Reads.Post (λ κs x. (now (x .1 .0), now (x .1 .1 .0)))
-hand-out-agrees κs args a b x y p q = (agree (p .refused) (q .refused), λ i. (agree (p .assoc) (q .assoc) i, agree (p .numbers) (q .numbers) i))
+hand-out-agrees κs args a b x y p q = (agree (p .refused) (q .refused), λ i. (agree (p .assoc) (q .assoc) i, agree (p .told) (q .told) i))

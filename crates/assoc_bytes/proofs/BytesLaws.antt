@@ -1,13 +1,12 @@
 -- An association as bytes: there and back, and each way through the code that makes one of the other.
 -- Assumes nothing.
-use Prim.Native.Nat.{ℕ, zero, suc, _+_, _*_, _^_, _<_, _≤_}
+use Prim.Native.Nat.{ℕ, zero, suc, _^_, _<_, _≤_}
 use native.Mathlib.Omega.{arith}
-use mathlib.Core.Path.{_≡_, refl, sym, ap, _∙_}
+use mathlib.Core.Path.{_≡_, refl, _∙_}
 use mathlib.Core.Bool.{Bool, true, false}
 use mathlib.Core.List.{List, [], _∷_, _++_}
 use lib.ListN.{length, getD}
 use borrow.Author.Needs.{needs}
-use borrow.Author.Tests.{eq-eqb, ne-eqb}
 use Rattle.association.specs.declared.Assoc.{Assoc}
 use Rattle.assoc_bytes.specs.Low.{low, lowAt}
 use Rattle.assoc_bytes.specs.Bytes.{byteOf, isSet, bytesOf, assocOf}
@@ -19,9 +18,9 @@ mark-back true = refl
 mark-back false = refl
 
 -- a record to bytes, and back, is the record; its numbers are of 32 and 64 bits
-pub record-back : (a : Assoc) → a .«peer_max» < 2 ^ 32 → a .gathered < 2 ^ 64 → assocOf (bytesOf a) ≡ a
+pub assoc-back : (a : Assoc) → a .«peer_max» < 2 ^ 32 → a .gathered < 2 ^ 64 → assocOf (bytesOf a) ≡ a
 unfolding assocOf bytesOf
-record-back a p g =
+assoc-back a p g =
     let x = mark-back (a .deaf) in
     let y = mark-back (a .artim) in
     let z = mark-back (a .requestor) in

@@ -21,11 +21,11 @@ pub low-first : bytesOf counted ≡ 6 ∷ 0 ∷ 1 ∷ 0 ∷ 4 ∷ 3 ∷ 2 ∷ 1 
 unfolding bytesOf
 low-first = refl
 
--- the greatest of everything; marks above 1 are set, and come back as 1
+-- the greatest numbers; marks above 1 are set, and come back as 1
 abbrev pub greatest : List ℕ
 greatest = 255 ∷ 2 ∷ 128 ∷ 255 ∷ 255 ∷ 255 ∷ 255 ∷ 255 ∷ 255 ∷ 255 ∷ 255 ∷ 255 ∷ 255 ∷ 255 ∷ 255 ∷ 255 ∷ []
 
-pub marks-of-255 : (assocOf greatest ≡ record { state = 255; gathered = 0xFFFFFFFFFFFFFFFF; deaf = true; artim = true; requestor = true; «peer_max» = 0xFFFFFFFF })
+pub marks-above-1 : (assocOf greatest ≡ record { state = 255; gathered = 0xFFFFFFFFFFFFFFFF; deaf = true; artim = true; requestor = true; «peer_max» = 0xFFFFFFFF })
     × (bytesOf (assocOf greatest) ≡ 255 ∷ 1 ∷ 1 ∷ 1 ∷ 255 ∷ 255 ∷ 255 ∷ 255 ∷ 255 ∷ 255 ∷ 255 ∷ 255 ∷ 255 ∷ 255 ∷ 255 ∷ 255 ∷ [])
 unfolding bytesOf assocOf
-marks-of-255 = (refl, refl)
+marks-above-1 = (refl, refl)

@@ -13,26 +13,26 @@ use Rattle.assoc_bytes.specs.Bytes.{bytesOf, assocOf}
 
 pub record Handed : Type 0 where
   pub refusal : ℕ
-  pub answer : List ℕ
+  pub numbers : List ℕ
   pub assoc : List ℕ
   pub gather : List ℕ
   pub out : List ℕ
 
 abbrev pub handed : ℕ → List ℕ → List ℕ → List ℕ → List ℕ → Handed
-handed refusal answer assoc gather out = record { refusal = refusal; answer = answer; assoc = assoc; gather = gather; out = out }
+handed refusal numbers assoc gather out = record { refusal = refusal; numbers = numbers; assoc = assoc; gather = gather; out = out }
 
 -- action, used, sent, shown
 abbrev pub answerNumbers : Told → List ℕ
 answerNumbers t = t .action ∷ t .used ∷ t .sent ∷ t .shown ∷ []
 
--- a refused call stores nothing, marks above 1 among it; an answered one stores marks as 0 or 1
+-- a refused call stores nothing: marks above 1 stay as they are too; an answered one stores marks as 0 or 1
 unfoldable pub storedOf : List ℕ → Answer → List ℕ
 storedOf s r = cond (eqb (r .told .refusal) NOT-REFUSED) (bytesOf (r .assoc)) s
 
 -- r was handed out over the bytes s, which are now s′: its refusal, and its numbers
-pub record Stored (s : List ℕ) (r : Answer) (refusal : ℕ) (answer s′ : List ℕ) : Type 0 where
+pub record Stored (s : List ℕ) (r : Answer) (refusal : ℕ) (numbers s′ : List ℕ) : Type 0 where
   pub refused : refusal ≡ r .told .refusal
-  pub numbers : answer ≡ answerNumbers (r .told)
+  pub told : numbers ≡ answerNumbers (r .told)
   pub assoc : s′ ≡ storedOf s r
 
 -- the call by value, on the association of the bytes

@@ -6,3 +6,4 @@ pub mod Refused
 pub mod Data
 pub mod ShutOut
 pub mod Instances
+pub mod Surface

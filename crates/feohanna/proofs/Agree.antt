@@ -23,12 +23,13 @@ use Rattle.feohanna.proofs.readers.feo_raw_read_data as read-data
 use Rattle.feohanna.proofs.readers.feo_raw_pdv_at as pdv-at
 use Rattle.feohanna.proofs.title.feo_raw_title_known as title-known
 
--- what is handed out beside the refusal, with the buffers lent
+-- what is handed out beside the refusal
 abbrev rest : Handed → Handed
-rest h = handed 0 (h .answer) (h .assoc) (h .gather) (h .out)
+rest h = handed 0 (h .numbers) (h .assoc) (h .gather) (h .out)
 
+-- and where the gather buffer is only read
 abbrev restBut : Handed → Handed
-restBut h = handed 0 (h .answer) (h .assoc) [] (h .out)
+restBut h = handed 0 (h .numbers) (h .assoc) [] (h .out)
 
 abbrev others : Associate → Associate
 others f = associate 0 (f .version) (f .«application_at») (f .«application_len») (f .maximum) (f .records)

@@ -1,4 +1,4 @@
-// Document 01's numbers by name, with the names of specs/: the refusals, the PDUs' kinds, lengths. Actions and events are in `table`. The header has the refusals' names too.
+// Document 01's numbers by name, with the names of specs/: the refusals, the PDUs' kinds, lengths. Actions and events are in `table`. The header has the names of refusals and lengths too.
 mod kinds;
 mod lengths;
 mod refusals;

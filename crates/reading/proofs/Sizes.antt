@@ -15,10 +15,10 @@ use Rattle.octets.specs.Octets.{be16}
 use Rattle.items.specs.Items.{Walk, done, broken, item, step, walkIn, walk, filled, bodies}
 
 -- ---- an item takes four bytes and those of its body: all items, those with these bodies, and those of these types
-unfoldable pub size : Walk → ℕ
-size done = 0
-size broken = 0
-size (item t b w) = 4 + length b + size w
+unfoldable pub walkSize : Walk → ℕ
+walkSize done = 0
+walkSize broken = 0
+walkSize (item t b w) = 4 + length b + walkSize w
 
 unfoldable pub sizes : List (List ℕ) → ℕ
 sizes [] = 0
@@ -58,8 +58,8 @@ unfolding sizes sizesOf
 none w h [] = refl
 none w h (t ∷ ts) = rw (h t, none w h ts)
 
-pub sizes-most : (ts : List ℕ) → distinct ts ≡ true → (w : Walk) → sizesOf ts w ≤ size w
-unfolding size bodies
+pub sizes-most : (ts : List ℕ) → distinct ts ≡ true → (w : Walk) → sizesOf ts w ≤ walkSize w
+unfolding walkSize bodies
 sizes-most ts h done = let z = none done (λ t. refl) ts in omega arith
 sizes-most ts h broken = let z = none broken (λ t. refl) ts in omega arith
 sizes-most ts h (item u b w) = let m = more u b w ts h in let r = sizes-most ts h w in omega arith
@@ -87,10 +87,10 @@ module _ (P : List ℕ → Walk → Type 0) (ended : P [] done) (broke : (s : Li
   by-items s = each-step (length s) s
 
 -- ---- items that fill their holder take all of it
-pub size-filled : (s : List ℕ) → filled (walk s) ≡ true → size (walk s) ≡ length s
-unfolding filled size
+pub size-filled : (s : List ℕ) → filled (walk s) ≡ true → walkSize (walk s) ≡ length s
+unfolding filled walkSize
 size-filled =
-    by-items (λ s w. filled w ≡ true → size w ≡ length s) (λ f. refl) (λ s f. absurd (held false f)) (λ s n w h r f.
+    by-items (λ s w. filled w ≡ true → walkSize w ≡ length s) (λ f. refl) (λ s f. absurd (held false f)) (λ s n w h r f.
     let m = r f in
     let d = length-drop (4 + n) s in
     let e = length-drop 4 s in

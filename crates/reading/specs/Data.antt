@@ -1,4 +1,4 @@
--- "Reading a PDV by its number, from 0, hands back the fragment's own part of the gathered PDU. A number past the last is refused with 4."
+-- A PDV by its number: "Reading a PDV by its number, from 0, hands back the fragment's own part of the gathered PDU. A number past the last is refused with 4." And one by its place.
 use Prim.Native.Nat.{ℕ, zero, suc, _+_, _-_}
 use mathlib.Core.Bool.{Bool, not, _&&_, cond}
 use mathlib.Core.List.{List, [], _∷_}

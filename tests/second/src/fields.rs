@@ -1,4 +1,4 @@
-//! Reading calls: the fields of a whole valid PDU of the kind asked for.
+//! Reading calls: the fields of a whole valid PDU of the kind asked for; and a PDV item by its place, which asks for no valid PDU.
 
 use crate::items::Pdv;
 use crate::valid::{judge, Associate, Context, Pdu};
