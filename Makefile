@@ -24,7 +24,8 @@ $(archive): crates.txt $(shell find crates)
 	@rt staticlib feohanna 2>&1 | grep -Ev '^fn .*: proved$$|^library |^logic'
 
 # Header, archive, feohanna.pc and manual page: make install PREFIX=/usr/local DESTDIR=
-install uninstall: export PREFIX = /usr/local
+PREFIX ?= /usr/local
+install uninstall: export PREFIX := $(PREFIX)
 install uninstall: export INCLUDEDIR = $(PREFIX)/include
 install uninstall: export LIBDIR = $(PREFIX)/lib
 install uninstall: export MANDIR = $(PREFIX)/share/man

@@ -298,9 +298,9 @@ static inline void feo_fresh(struct feo_assoc *a)
 
 /*
  * Bytes were received: uses them through the one that completes a PDU, or a header with a length above FEO_LONGEST, else all of
- * them, and says how many. Offer what is left again: behind the response to that PDU, where it asks for one (accept, reject,
- * release), and before any other local event. gather: FEO_BUFFER bytes or more, the same ones at each call, that the host leaves
- * alone.
+ * them, and says how many. Offer what is left again: behind what answers that PDU (accept, reject, release response, data, an
+ * abort because of it), and before any other local event. gather: FEO_BUFFER bytes or more, the same ones at each call, that the
+ * host leaves alone.
  */
 static inline uint8_t feo_receive(
     struct feo_assoc *a, uint8_t *gather, size_t gather_len, const uint8_t *piece, size_t piece_len, uint8_t *out, size_t out_len,
