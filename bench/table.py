@@ -70,9 +70,9 @@ def plot(measured):
     legend, at = "", 10
     for who, colour in COLOURS.items():
         legend += f'<rect x="{at}" y="8" width="11" height="11" fill="{colour}"/><text x="{at + 16}" y="18">against {NAMES[who]}</text>'
-        at += 64 + 7 * len(NAMES[who])
+        at += 84 + 6 * len(NAMES[who])
     return (
-        f'<svg xmlns="http://www.w3.org/2000/svg" viewBox="0 0 780 {y + 44}" font-family="sans-serif" font-size="12">'
+        f'<svg xmlns="http://www.w3.org/2000/svg" viewBox="0 0 790 {y + 44}" font-family="sans-serif" font-size="12">'
         f'<rect width="100%" height="100%" fill="white"/>{legend}{grid}{"".join(body)}'
         f'<text x="{left + width / 2}" y="{y + 34}" text-anchor="middle">time of feohanna / time of the other (below 1: feohanna is faster)</text></svg>\n'
     )
