@@ -11,7 +11,7 @@ CONSTANT = re.compile(r"^\s*pub const ([A-Z][A-Z0-9_]*): \w+ = (0x[0-9a-fA-F]+|\
 DEFINED = re.compile(r"^abbrev pub ([A-Z][A-Z0-9-]*|····) : ℕ\n\1 = (0x[0-9a-fA-F]+|\d+)$", re.M)
 HEADER = "include/feohanna.h"
 LENGTHS = "crates/numbers/src/lengths.rt"
-ROOM = "crates/reading/proofs/Room.antt"
+ROOM = "crates/sheet_room/proofs/Room.antt"
 BOTH = [
     ("crates/numbers/src/refusals.rt", "crates/numbers/specs/Refusals.antt"),
     ("crates/numbers/src/kinds.rt", "crates/numbers/specs/Kinds.antt"),

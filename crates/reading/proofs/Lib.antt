@@ -5,8 +5,4 @@ pub mod DataLaws
 pub mod PlaceLaws
 pub mod Agree
 pub mod Meaning
-pub mod Sizes
-pub mod Distinct
-pub mod Room
-pub mod Longest
 pub mod Examples

@@ -24,11 +24,11 @@ use Rattle.judging.specs.Pdu.{kindOf}
 use Rattle.judging.proofs.KindLaws.{whole-length, whole-limit, kind-whole, request-items, accept-items}
 use Rattle.sheets.specs.Sheet.{contextRecords, sheetOf, answerSheetOf}
 use Rattle.sheets.proofs.RecordLaws.{record-length}
 use Rattle.reading.specs.Associate.{contextOf, answerOf, proposed, answered, sheetIn, associateRefusal, Read}
 use Rattle.reading.specs.declared.associate.Associate.{Associate}
 use Rattle.reading.proofs.Meaning.{refusal-is, request-records}
-use Rattle.reading.proofs.Sizes.{sizes, sizesOf, sizes-most, by-items, size-filled}
-use Rattle.reading.proofs.Distinct.{odds-most}
+use Rattle.sheet_room.proofs.Sizes.{sizes, sizesOf, sizes-most, by-items, size-filled}
+use Rattle.sheet_room.proofs.Distinct.{odds-most}
 
 -- ---- the bytes that items take: of names, five or more each
 name-some : (s : List ℕ) → nameOk s ≡ true → 1 ≤ length s

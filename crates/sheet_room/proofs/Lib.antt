@@ -1,0 +1,4 @@
+pub mod Sizes
+pub mod Distinct
+pub mod Room
+pub mod Longest
