@@ -3,3 +3,4 @@ pub mod Every
 pub mod Refused
 pub mod Data
 pub mod ShutOut
+pub mod Surface
