@@ -46,7 +46,7 @@ bytes-back s l b d t q =
     (λ i. (getD s 0 0 ∷ x i ∷ y i ∷ z i ∷ u i) ++ v i) ∙ run-all 16 s l
 
 -- ---- in code
-pub bytes-made : (a : Assoc) (d t q : ℕ) (p g : List ℕ) → d ≡ byteOf (a .deaf) → t ≡ byteOf (a .artim) → q ≡ byteOf (a .requestor) → p ≡ low 4 (a .«peer_max») → g ≡ low 8 (a .gathered)
+pub bytes-made : (a : Assoc) (d t q : ℕ) (p g : List ℕ) → d ≡ byteOf (a .deaf) → t ≡ byteOf (a .artim) → q ≡ byteOf (a .requestor) → p ≡ low 8 (a .«peer_max») → g ≡ low 8 (a .gathered)
     → a .state ∷ d ∷ t ∷ q ∷ getD p 0 0 ∷ getD p 1 0 ∷ getD p 2 0 ∷ getD p 3 0
     ∷ getD g 0 0 ∷ getD g 1 0 ∷ getD g 2 0 ∷ getD g 3 0 ∷ getD g 4 0 ∷ getD g 5 0 ∷ getD g 6 0 ∷ getD g 7 0 ∷ []
     ≡ bytesOf a

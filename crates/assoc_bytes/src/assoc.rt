@@ -1,5 +1,4 @@
 // A record as 16 bytes and back, and what is stored and told of an answer.
-use crate::low::low4;
 use crate::low::low8;
 use crate::low::number4;
 use crate::low::number8;
@@ -26,7 +25,7 @@ fn byte_of(mark: bool) -> u8
 pub fn bytes_of(a: Assoc) -> [u8; 16]
     ensures { λ r. ⌜ r ≡ bytesOf a ⌝ }
 {
-    let p = low4(a.peer_max);
+    let p = low8(a.peer_max as usize);
     let g = low8(a.gathered);
     [
         a.state,

@@ -4,17 +4,7 @@ ghost use mathlib.Core.List.{[], _∷_};
 ghost use Prim.Native.Nat.{_+_, _*_};
 ghost use Rattle.assoc_bytes.specs.Low.{low, lowAt};
 
-pub(crate) fn low4(n: u32) -> [u8; 4]
-    ensures { λ r. ⌜ r ≡ low 4 n ⌝ }
-{
-    [
-        (n % 256) as u8,
-        (n / 256 % 256) as u8,
-        (n / 256 / 256 % 256) as u8,
-        (n / 256 / 256 / 256 % 256) as u8,
-    ]
-}
-
+// Its first bytes are those of a smaller width.
 pub(crate) fn low8(n: usize) -> [u8; 8]
     ensures { λ r. ⌜ r ≡ low 8 n ⌝ }
 {
