@@ -2,24 +2,10 @@
  * An association is 16 bytes: state, deaf, artim, requestor, one each; peer_max, four; gathered, eight; low byte first. What a call
  * takes from them and stores in them, byte by byte. In the common part of C99, C11 and C++.
  */
-#include <stdio.h>
-#include <stdlib.h>
 #include <string.h>
 
+#include "check.h"
 #include "feohanna.h"
-
-static long checks;
-
-static void check(int line, int holds, const char *what)
-{
-    checks++;
-    if (holds)
-        return;
-    printf("assoc.c:%d: not so: %s\n", line, what);
-    exit(1);
-}
-
-#define CHECK(x) check(__LINE__, (x) != 0, #x)
 
 /* An association between guard bytes. */
 static struct {
@@ -43,7 +29,7 @@ static void is(int line, const char *bytes)
     size_t i;
     for (i = 0; i < 16; i++)
         if (((const uint8_t *)&lent.a)[i] != (uint8_t)bytes[i]) {
-            printf("assoc.c:%d: byte %d is %d\n", line, (int)i, ((const uint8_t *)&lent.a)[i]);
+            printf("line %d: byte %d is %d\n", line, (int)i, ((const uint8_t *)&lent.a)[i]);
             exit(1);
         }
     for (i = 0; i < 32; i++)

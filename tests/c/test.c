@@ -2,24 +2,9 @@
  * Calls every function of include/feohanna.h, good and refused. Each call runs in a world with guard bytes, of which a copy says what
  * it is to become: whatever a call changes beyond that shows. Expected values are document 01's. In the common part of C99 and C++.
  */
-#include <stdio.h>
-#include <stdlib.h>
-
 #include "build.h"
+#include "check.h"
 #include "feohanna.h"
-
-static long checks;
-
-static void check(int line, int holds, const char *what)
-{
-    checks++;
-    if (holds)
-        return;
-    printf("test.c:%d: not so: %s\n", line, what);
-    exit(1);
-}
-
-#define CHECK(x) check(__LINE__, (x) != 0, #x)
 
 /* ---- the world */
 
