@@ -19,7 +19,7 @@ use Rattle.pdvs.specs.Data.{Pdv, pdvs, size, pdvEnd}
 use Rattle.judging.specs.Pdu.{kindOf}
 use Rattle.pdvs.proofs.DataLaws.{pdvAt, PdvItem, pdv-more, pdv-stop}
 use Rattle.judging.proofs.KindLaws.{whole-six, kind-whole}
-use Rattle.reading.specs.Data.{pdvsOf, pdv, startOf, dataOf, fragmentOf}
+use Rattle.reading.specs.Data.{pdvsOf, pdv, startOf, noData, dataOf, fragmentOf}
 use Rattle.reading.specs.declared.data.DataRead.{DataRead}
 
 -- ---- lists
@@ -113,9 +113,9 @@ pub ruleset reach-laws = (needs, reach-start, reach-done, reach-stop, reach-next
 
 -- ---- `read_data`
 module _ (x : List ℕ) (number k : ℕ) (p : k ≡ kindOf x) where
-  pub data-other : (k ≡ 4 → ⊥) → record { refusal = 7; id = 0; control = 0; start = 0; len = 0 } ≡ dataOf x number
+  pub data-other : {r : DataRead} → r ≡ noData 7 → (k ≡ 4 → ⊥) → r ≡ dataOf x number
   unfolding dataOf
-  data-other h = rw (← p, ne-eqb k 4 h)
+  data-other w h = w ∙ rw (← p, ne-eqb k 4 h)
 
   module _ (h : k ≡ 4) where
     pub data-six : 6 ≤ length x
@@ -129,11 +129,11 @@ module _ (x : List ℕ) (number k : ℕ) (p : k ≡ kindOf x) where
       end-in : e ≡ pdvEnd (drop 6 x) at
       end-in = q ∙ rw (part-tail 6 x)
 
-      pub data-past : e ≡ 0 → record { refusal = 4; id = 0; control = 0; start = 0; len = 0 } ≡ dataOf x number
+      pub data-past : {r : DataRead} → r ≡ noData 4 → e ≡ 0 → r ≡ dataOf x number
       unfolding dataOf pdvsOf
-      data-past z =
+      data-past w z =
           let l = run-out (pdvs (drop 6 x)) number (no-pdv (drop 6 x) number at e place-in end-in z) in
-          rw (← p, h, le-ltb number (length (pdvs (drop 6 x))) l)
+          w ∙ rw (← p, h, le-ltb number (length (pdvs (drop 6 x))) l)
 
       module _ (ne : e ≡ 0 → ⊥) where
         item-in : PdvItem (drop 6 x) at e

@@ -18,9 +18,8 @@ use Rattle.reasons.specs.Values.{rejectReasons, rejectOk, abortOk}
 use Rattle.judging.specs.Pdu.{whole, requestOk, rejectPduOk, dataOk, abortPduOk, validAs, kindOf, maximumOf}
 use Rattle.sheets.specs.Sheet.{recordBytes, contextRecords, sheetOf}
 use Rattle.reading.specs.Associate.{contextOf, proposed, applicationOf, applicationAt, sheetIn, associateOf, filling}
-use Rattle.reading.specs.Data.{pdvsOf, pdv, startOf, dataOf, fragmentOf, pdvStands, dataAt, placeAfter}
+use Rattle.reading.specs.Data.{pdvsOf, pdv, startOf, noData, dataOf, fragmentOf, pdvStands, dataAt, placeAfter}
 use Rattle.reading.specs.Values.{rejectIn, abortIn}
-use Rattle.reading.specs.declared.data.DataRead.{DataRead}
 
 -- ---- a P-DATA-TF with a fragment of three bytes and an empty one
 abbrev two-pdvs : List ℕ
@@ -41,7 +40,7 @@ pub second-pdv : dataOf two-pdvs 1 ≡ record { refusal = 0; id = 3; control = 2
 unfolding data-kind dataOf pdvsOf pdv startOf
 second-pdv = refl
 
-pub no-third : dataOf two-pdvs 2 ≡ record { refusal = 4; id = 0; control = 0; start = 0; len = 0 }
+pub no-third : dataOf two-pdvs 2 ≡ noData 4
 unfolding data-kind dataOf pdvsOf pdv startOf
 no-third = refl
 
@@ -50,26 +49,23 @@ unfolding data-kind fragmentOf dataOf pdvsOf pdv startOf
 own-part = refl
 
 -- ---- by their places: from 6 on, each behind the one before
-abbrev no-pdv : DataRead
-no-pdv = record { refusal = 4; id = 0; control = 0; start = 0; len = 0 }
-
 pub places : (placeAfter two-pdvs 1 ≡ 15) × (placeAfter two-pdvs 2 ≡ 21)
 unfolding placeAfter dataAt pdvStands be16 be32
 places = (refl, refl)
 
-pub by-place : (dataAt two-pdvs 6 ≡ dataOf two-pdvs 0) × (dataAt two-pdvs 15 ≡ dataOf two-pdvs 1) × (dataAt two-pdvs 21 ≡ no-pdv)
+pub by-place : (dataAt two-pdvs 6 ≡ dataOf two-pdvs 0) × (dataAt two-pdvs 15 ≡ dataOf two-pdvs 1) × (dataAt two-pdvs 21 ≡ noData 4)
 unfolding data-kind dataOf pdvsOf pdv startOf dataAt pdvStands
 by-place = (refl, refl, refl)
 
 -- in the header there is no place, even where the bytes from there would be an item; nor past the end
-pub no-place : (dataAt (4 ∷ 0 ∷ 0 ∷ 0 ∷ 0 ∷ 2 ∷ 1 ∷ 3 ∷ []) 2 ≡ no-pdv) × (dataAt two-pdvs 0xFFFFFFFFFFFFFFFF ≡ no-pdv)
+pub no-place : (dataAt (4 ∷ 0 ∷ 0 ∷ 0 ∷ 0 ∷ 2 ∷ 1 ∷ 3 ∷ []) 2 ≡ noData 4) × (dataAt two-pdvs 0xFFFFFFFFFFFFFFFF ≡ noData 4)
 unfolding dataAt pdvStands be16 be32
 no-place = (refl, refl)
 
 -- an even ID; a length of 1; a length of 3 with two bytes behind it
-pub no-item : (dataAt (4 ∷ 0 ∷ (four 6 ++ (0 ∷ 0 ∷ 0 ∷ 2 ∷ 2 ∷ 3 ∷ []))) 6 ≡ no-pdv)
-    × (dataAt (4 ∷ 0 ∷ (four 6 ++ (0 ∷ 0 ∷ 0 ∷ 1 ∷ 1 ∷ 3 ∷ []))) 6 ≡ no-pdv)
-    × (dataAt (4 ∷ 0 ∷ (four 6 ++ (0 ∷ 0 ∷ 0 ∷ 3 ∷ 1 ∷ 3 ∷ []))) 6 ≡ no-pdv)
+pub no-item : (dataAt (4 ∷ 0 ∷ (four 6 ++ (0 ∷ 0 ∷ 0 ∷ 2 ∷ 2 ∷ 3 ∷ []))) 6 ≡ noData 4)
+    × (dataAt (4 ∷ 0 ∷ (four 6 ++ (0 ∷ 0 ∷ 0 ∷ 1 ∷ 1 ∷ 3 ∷ []))) 6 ≡ noData 4)
+    × (dataAt (4 ∷ 0 ∷ (four 6 ++ (0 ∷ 0 ∷ 0 ∷ 3 ∷ 1 ∷ 3 ∷ []))) 6 ≡ noData 4)
 unfolding dataAt pdvStands be16 be32
 no-item = (refl, refl, refl)
 

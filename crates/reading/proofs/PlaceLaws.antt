@@ -19,19 +19,20 @@ use Rattle.pdvs.specs.Data.{Pdv, pdvs, size, pdvOk, pdvsOk, pdvEnd}
 use Rattle.pdvs.proofs.DataLaws.{be32-drop}
 use Rattle.judging.specs.Pdu.{dataOk, validAs, kindOf}
 use Rattle.judging.proofs.KindLaws.{whole-six, kind-whole, kind-valid}
-use Rattle.reading.specs.Data.{pdvsOf, pdv, startOf, dataOf, pdvStands, dataAt, placeAfter}
+use Rattle.reading.specs.Data.{pdvsOf, pdv, startOf, noData, dataOf, pdvStands, dataAt, placeAfter}
+use Rattle.reading.specs.declared.data.DataRead.{DataRead}
 use Rattle.reading.proofs.DataLaws.{size-more, the-pdv, pdv-is, at-n, end-n, there, length-n, data-in}
 
 -- ---- `pdv_at`
 module _ (x : List ℕ) (at : ℕ) where
-  pub at-header : (k : ℕ) → leb k 6 ≡ true → at < k → record { refusal = 4; id = 0; control = 0; start = 0; len = 0 } ≡ dataAt x at
+  pub at-header : {r : DataRead} → r ≡ noData 4 → (k : ℕ) → leb k 6 ≡ true → at < k → r ≡ dataAt x at
   unfolding dataAt pdvStands
-  at-header k q h = let l : k ≤ 6 = leb-true _ _ q in simp (lt-leb 6 at (omega arith))
+  at-header w k q h = let l : k ≤ 6 = leb-true _ _ q in w ∙ simp (lt-leb 6 at (omega arith))
 
-  pub at-even : (getD x (at + 4) 0 % 2 ≡ 1 → ⊥) → record { refusal = 4; id = 0; control = 0; start = 0; len = 0 } ≡ dataAt x at
+  pub at-even : {r : DataRead} → r ≡ noData 4 → (getD x (at + 4) 0 % 2 ≡ 1 → ⊥) → r ≡ dataAt x at
   unfolding dataAt pdvStands
-  at-even o =
-      simp (
+  at-even w o =
+      w ∙ simp (
         ne-eqb (getD x (at + 4) 0 % 2) 1 o,
         and-false (leb (at + 4 + be32 x at) (length x)),
         and-false (leb 2 (be32 x at)),
@@ -39,10 +40,10 @@ module _ (x : List ℕ) (at : ℕ) where
       )
 
   module _ (e : ℕ) (p : e ≡ pdvEnd x at) where
-    pub at-none : e ≡ 0 → record { refusal = 4; id = 0; control = 0; start = 0; len = 0 } ≡ dataAt x at
+    pub at-none : {r : DataRead} → r ≡ noData 4 → e ≡ 0 → r ≡ dataAt x at
     unfolding dataAt pdvStands partEnd
-    at-none z =
-        simp (
+    at-none w z =
+        w ∙ simp (
           go (leb 2 (be32 x at)) (leb (at + 4 + be32 x at) (length x)) (eqb (getD x (at + 4) 0 % 2) 1) (sym p ∙ z),
           and-false (leb 6 at),
         )
@@ -146,13 +147,13 @@ module _ (x : List ℕ) (v : kindOf x ≡ DATA-TF) where
       p ∙ rw t (omega arith)
 
   -- and there is no PDV there
-  pub none-behind : dataAt x (length x) ≡ record { refusal = 4; id = 0; control = 0; start = 0; len = 0 }
+  pub none-behind : dataAt x (length x) ≡ noData 4
   unfolding dataAt pdvStands
   none-behind =
       let s = six in
       simp (le-leb 6 (length x) s, lt-leb (length x + 4 + be32 x (length x)) (length x) (omega arith), and-false (leb 2 (be32 x (length x))))
 
-  past-last : (n : ℕ) → length (pdvsOf x) ≤ n → dataOf x n ≡ record { refusal = 4; id = 0; control = 0; start = 0; len = 0 }
+  past-last : (n : ℕ) → length (pdvsOf x) ≤ n → dataOf x n ≡ noData 4
   unfolding dataOf
   past-last n h = rw (v, le-ltb n (length (pdvsOf x)) h)
 
@@ -176,4 +177,4 @@ module _ (x : List ℕ) (v : kindOf x ≡ DATA-TF) where
       go ih false q = let l : n < length (pdvsOf x) = leb-false _ _ q in to-last (suc n) (omega arith)
       go ih true q =
           let l : length (pdvsOf x) ≤ n = leb-true _ _ q in
-          rw (ih, past-last n l, past-last (suc n) (omega arith)) (sym (at-header x 0 6 refl (omega arith)))
+          rw (ih, past-last n l, past-last (suc n) (omega arith)) (sym (at-header x 0 refl 6 refl (omega arith)))

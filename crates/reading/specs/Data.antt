@@ -35,6 +35,10 @@ dataTests pdu n =
 abbrev pub dataRefusal : List ℕ → ℕ → ℕ
 dataRefusal pdu n = firstDue (dataTests pdu n)
 
+-- refused: all else 0
+abbrev pub noData : ℕ → DataRead
+noData n = record { refusal = n; id = 0; control = 0; start = 0; len = 0 }
+
 unfoldable pub dataOf : List ℕ → ℕ → DataRead
 dataOf pdu n =
     cond (eqb (dataRefusal pdu n) NOT-REFUSED)
@@ -45,7 +49,7 @@ dataOf pdu n =
       start = startOf (pdvsOf pdu) n;
       len = length (pdv (pdvsOf pdu) n .fragment);
     })
-    (record { refusal = dataRefusal pdu n; id = 0; control = 0; start = 0; len = 0 })
+    (noData (dataRefusal pdu n))
 
 -- the part of the PDU from that start, of that length: the fragment (DataLaws.fragment-is), and nothing where refused
 unfoldable pub fragmentOf : List ℕ → ℕ → List ℕ
@@ -60,7 +64,7 @@ unfoldable pub dataAt : List ℕ → ℕ → DataRead
 dataAt pdu at =
     cond (pdvStands pdu at)
     (record { refusal = NOT-REFUSED; id = getD pdu (at + 4) 0; control = getD pdu (at + 5) 0; start = at + 6; len = be32 pdu at - 2 })
-    (record { refusal = BAD-CONTENTS; id = 0; control = 0; start = 0; len = 0 })
+    (noData BAD-CONTENTS)
 
 -- where a host is after n PDVs: at first behind the header, then each time behind the fragment that stood where it was
 unfoldable pub placeAfter : List ℕ → ℕ → ℕ

@@ -3,7 +3,7 @@ ghost use mathlib.Core.Path.{_≡_};
 ghost use lib.ListN.{take};
 ghost use Rattle.octets.specs.Slice.{PartOf};
 ghost use Rattle.pdvs.specs.Data.{pdvs, size};
-ghost use Rattle.reading.specs.Data.{dataOf, dataAt, fragmentOf};
+ghost use Rattle.reading.specs.Data.{noData, dataOf, dataAt, fragmentOf};
 
 // refusal: NOT_REFUSED, or NO_SUCH_PDU or BAD_CONTENTS with all else 0. The fragment starts at start, counted from the PDU's first byte, and has len bytes.
 pub struct DataRead {
@@ -12,6 +12,18 @@ pub struct DataRead {
     pub control: u8,
     pub start: usize,
     pub len: usize,
+}
+
+fn no_data(refusal: u8) -> DataRead
+    ensures { λ r. ⌜ r ≡ noData refusal ⌝ }
+{
+    DataRead {
+        refusal: refusal,
+        id: 0,
+        control: 0,
+        start: 0,
+        len: 0,
+    }
 }
 
 // How many bytes of a P-DATA-TF's body the PDV items before a number take; all of them where there are no more than that.
@@ -36,25 +48,13 @@ pub fn read_data(pdu: &[u8], number: usize) -> DataRead
     ensures { λ r. ⌜ r ≡ dataOf (now (pdu .entry)) number ⌝ }
 {
     if judging::kind_of(pdu) != numbers::DATA_TF {
-        return DataRead {
-            refusal: numbers::NO_SUCH_PDU,
-            id: 0,
-            control: 0,
-            start: 0,
-            len: 0,
-        };
+        return no_data(numbers::NO_SUCH_PDU);
     }
     let s = &pdu[numbers::HEADER..];
     let at = pdv_place(number, s);
     let e = pdvs::pdv_end(s, at);
     if e == 0 {
-        return DataRead {
-            refusal: numbers::BAD_CONTENTS,
-            id: 0,
-            control: 0,
-            start: 0,
-            len: 0,
-        };
+        return no_data(numbers::BAD_CONTENTS);
     }
     DataRead {
         refusal: numbers::NOT_REFUSED,
@@ -79,22 +79,15 @@ pub fn fragment(pdu: &[u8], number: usize) -> &[u8]
 pub fn pdv_at(pdu: &[u8], at: usize) -> DataRead
     ensures { λ r. ⌜ r ≡ dataAt (now (pdu .entry)) at ⌝ }
 {
-    let none = DataRead {
-        refusal: numbers::BAD_CONTENTS,
-        id: 0,
-        control: 0,
-        start: 0,
-        len: 0,
-    };
     if at < numbers::HEADER {
-        return none;
+        return no_data(numbers::BAD_CONTENTS);
     }
     let e = pdvs::pdv_end(pdu, at);
     if e == 0 {
-        return none;
+        return no_data(numbers::BAD_CONTENTS);
     }
     if pdu[at + 4] % 2 != 1 {
-        return none;
+        return no_data(numbers::BAD_CONTENTS);
     }
     DataRead {
         refusal: numbers::NOT_REFUSED,

@@ -7,8 +7,9 @@ pub pdv-at-spec : {M : Type 1} → statement M
 pdv-at-spec =
     tie.close
     (tie.spec
-    (λ c. search place-laws) (λ c κs. search place-laws) (λ c. search place-laws)  -- returns, pdv-end-requires, returns-2
-    (λ c. search place-laws) (λ c. search place-laws) (λ c. search place-laws)  -- add-if3, shared-slice-read-if3, returns-3
-    (λ c. search place-laws) (λ c. search place-laws) (λ c. search place-laws)  -- add-t6, shared-slice-read-t8, add-t11
-    (λ c. search place-laws) (λ c. search place-laws) (λ c. search place-laws)  -- shared-slice-read-t9, add-t13, add-t14
-    (λ c. search place-laws) (λ c. search place-laws))  -- sub-t15, returns-4
+    (λ c κs. search place-laws) (λ c. search place-laws) (λ c κs. search place-laws)  -- no-data-requires, returns, pdv-end-requires
+    (λ c κs. search place-laws) (λ c. search place-laws) (λ c. search place-laws)  -- no-data-requires-2, returns-2, add-if3
+    (λ c. search place-laws) (λ c κs. search place-laws) (λ c. search place-laws)  -- shared-slice-read-if3, no-data-requires-3, returns-3
+    (λ c. search place-laws) (λ c. search place-laws) (λ c. search place-laws)  -- add-t5, shared-slice-read-t7, add-t10
+    (λ c. search place-laws) (λ c. search place-laws) (λ c. search place-laws)  -- shared-slice-read-t8, add-t12, add-t13
+    (λ c. search place-laws) (λ c. search place-laws))  -- sub-t14, returns-4
