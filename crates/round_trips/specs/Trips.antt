@@ -13,7 +13,7 @@ use Rattle.judging.specs.Pdu.{calledOf, callingOf, kindOf, acceptable as accept
 use Rattle.sheets.specs.Sheet.{contextsIn, answersIn}
 use Rattle.reading.specs.Associate.{proposed, answered, applicationOf, sheetIn, associateOf, filling}
 use Rattle.reading.specs.Values as values
-use Rattle.reading.specs.Data.{pdv, startOf, dataOf, fragmentOf}
+use Rattle.reading.specs.Data.{pdv, startOf, noData, dataOf, fragmentOf}
 use Rattle.reading.specs.declared.associate.Associate.{Associate}
 use Rattle.reading.specs.declared.data.DataRead.{DataRead}
 use Rattle.writing.specs.Fields.{RqFields, AcFields, Reject, Items, Abort}
@@ -57,7 +57,7 @@ pub record AbortTrip (f : Abort) (pdu : List ℕ) : Type 0 where
 
 -- "A number past the last is refused with 4."
 abbrev pub pastLast : DataRead
-pastLast = record { refusal = BAD-CONTENTS; id = 0; control = 0; start = 0; len = 0 }
+pastLast = noData BAD-CONTENTS
 
 -- what reading PDV n of these answers
 unfoldable pub pdvRead : List Pdv → ℕ → DataRead
