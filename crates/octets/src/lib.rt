@@ -1,5 +1,7 @@
 // Numbers in bytes, high byte first, bytes compared, and bytes put at a place of a lent buffer.
 ghost use mathlib.Core.Path.{_≡_};
+ghost use mathlib.Core.Bool.{true, cond};
+ghost use lib.Dec.{eqb};
 ghost use Prim.Native.Nat.{_+_, _*_, _≤_};
 ghost use lib.ListN.{length, getD};
 ghost use Rattle.laws.specs.Lists.{sameBytes};
@@ -16,21 +18,37 @@ pub fn byte_at(s: &[u8], at: usize) -> u8
     0
 }
 
-// Whether two runs of bytes are the same.
+// Whether these two bytes differ, or any before them did.
+fn unlike(before: bool, x: u8, y: u8) -> bool
+    ensures { λ r. ⌜ r ≡ cond (eqb x y) before true ⌝ }
+{
+    if x == y {
+        return before;
+    }
+    true
+}
+
+// Whether two runs of bytes are the same. The last byte comes first, since names share their beginning; the rest without a way out, so that the compiler goes many bytes at a time.
 pub fn same_bytes(a: &[u8], b: &[u8]) -> bool
     ensures { λ r. ⌜ r ≡ sameBytes (now (a .entry)) (now (b .entry)) ⌝ }
 {
-    if a.len() != b.len() {
+    let n = a.len();
+    if n != b.len() {
         return false;
     }
+    if n == 0 {
+        return true;
+    }
+    if a[n - 1] != b[n - 1] {
+        return false;
+    }
+    let mut differ = false;
     let mut i = 0;
-    while i < a.len() {
-        if a[i] != b[i] {
-            return false;
-        }
+    while i < n {
+        differ = unlike(differ, a[i], b[i]);
         i += 1;
     }
-    true
+    !differ
 }
 
 fn join16(high: u8, low: u8) -> u16

@@ -1,18 +1,16 @@
--- `same_bytes` meets its contract. The bytes before i are the same.
+-- `same_bytes` meets its contract. `differ` tells of the bytes before i.
 -- Assumes nothing.
-use Prim.Native.Nat.{_≤_, _-_}
-use mathlib.Core.Path.{_≡_}
-use lib.ListN.{length, drop}
-use Rattle.laws.specs.Lists.{sameBytes}
-use Rattle.laws.proofs.Same.{same-laws}
+use Prim.Native.Nat.{_-_, _≤_}
+use lib.ListN.{length}
+use Rattle.laws.proofs.Same.{Comparing, same-laws}
 use Rattle.octets.proofs.same_bytes.Statement.{statement}
 use Rattle.octets.proofs.same_bytes.Tie as tie
 
 abbrev Inv-loop : tie.InvT-loop
-Inv-loop a b i₀ i = (i ≤ length a) × (sameBytes (drop i a) (drop i b) ≡ sameBytes a b)
+Inv-loop a b n differ₀ i₀ differ i = (i ≤ length a) × Comparing a b differ i
 
 abbrev μ-loop : tie.MeasureT-loop
-μ-loop a b i₀ i = length a - i
+μ-loop a b n differ₀ i₀ differ i = length a - i
 
 pub same-bytes-spec : {M : Type 1} → statement M
 same-bytes-spec =
@@ -20,6 +18,8 @@ same-bytes-spec =
     (tie.spec
     Inv-loop
     μ-loop
-    (λ c. search same-laws) (λ c. search same-laws) (λ c. search same-laws)  -- returns, loop-holds, shared-slice-read-if2
-    (λ c. search same-laws) (λ c. search same-laws) (λ c. search same-laws)  -- shared-slice-read-if2-2, returns-2, add-i
-    (λ c. search same-laws) (λ c. search same-laws) (λ c. search same-laws))  -- loop-less, loop-again, returns-3
+    (λ c. search same-laws) (λ c. search same-laws) (λ c. search same-laws)  -- returns, returns-2, sub-if3
+    (λ c. search same-laws) (λ c. search same-laws) (λ c. search same-laws)  -- shared-slice-read-if3, sub-if3-2, shared-slice-read-if3-2
+    (λ c. search same-laws) (λ c. search same-laws) (λ c. search same-laws)  -- returns-3, loop-holds, shared-slice-read-unlike
+    (λ c. search same-laws) (λ c κs. search same-laws) (λ c. search same-laws)  -- shared-slice-read-unlike-2, unlike-requires, add-i
+    (λ c. search same-laws) (λ c. search same-laws) (λ c. search same-laws))  -- loop-less, loop-again, returns-4
