@@ -4,6 +4,7 @@ use Rattle.laws.proofs.Agree.{agree, Agrees, AgreesPart}
 use Rattle.octets.proofs.SliceLaws.{parts-agree}
 use Rattle.sheets.proofs.good.proposal_ok as proposal-ok
 use Rattle.sheets.proofs.good.answers_ok as answers-ok
+use Rattle.sheets.proofs.good.site_ok as site-ok
 use Rattle.sheets.proofs.record.record_of as record-of
 use Rattle.sheets.proofs.record.abstract_at as abstract-at
 use Rattle.sheets.proofs.record.transfer_at as transfer-at
@@ -14,6 +15,9 @@ proposal-ok-agrees κs args a b x y p q = agree p q
 
 pub answers-ok-agrees : Agrees 1 answers-ok.Kinds.ps answers-ok.Kinds.r answers-ok.Reads.Post
 answers-ok-agrees κs args a b x y p q = agree p q
+
+pub site-ok-agrees : Agrees 1 site-ok.Kinds.ps site-ok.Kinds.r site-ok.Reads.Post
+site-ok-agrees κs args a b x y p q = agree p q
 
 pub record-of-agrees : Agrees 2 record-of.Kinds.ps record-of.Kinds.r record-of.Reads.Post
 record-of-agrees κs args a b x y p q = agree p q

@@ -2,7 +2,7 @@
 -- Assumes nothing.
 use Prim.Native.Nat.{ℕ, zero, suc, _+_, _-_, _*_, _%_, _≤_, _<_}
 use native.Mathlib.Omega.{arith}
-use mathlib.Core.Bool.{Bool, true, false, not, _&&_, cond, and-false}
+use mathlib.Core.Bool.{Bool, true, false, not, _&&_, cond, and-false, and-true}
 use mathlib.Core.List.{List, [], _∷_, map}
 use mathlib.Core.Path.{_≡_, refl, sym, ap, _∙_}
 use lib.ListN.{length, take, drop, getD, length-drop, length-map}
@@ -18,9 +18,11 @@ use Rattle.laws.proofs.Same.{same-equal}
 use Rattle.names.specs.Name.{nameOk}
 use Rattle.octets.specs.Octets.{odd}
 use Rattle.sheets.specs.Contexts.{Context, contextId, answeredId, contextOk, transferNameOk, answeredOk, contextsOk, allAnsweredOk}
-use Rattle.sheets.specs.Sheet.{recordId, abstractOf, transferOf, recordsOf, goesOn, firstTransfers, others, start, sheetRuns, contextsIn, answeredOf, answersIn, zero?, fieldOk, fieldsOk, proposes, proposalRecord, answers, proposalOk, answersOk}
+use Rattle.sheets.specs.Sheet.{recordId, abstractOf, transferOf, recordsOf, goesOn, firstTransfers, others, start, sheetRuns, contextsIn, answeredOf, answersIn, zero?, fieldOk, fieldsOk, proposes, proposalRecord, siteRecord, answers, proposalOk, answersOk, siteOk}
 use Rattle.sheets.specs.Record.{recordAt}
 use Rattle.sheets.specs.Private.OneRecord.{answerRecord, recordOk, sheetOk, idsIn}
+use Rattle.sheets.specs.declared.good.Kind.{Kind}
+use Rattle.sheets.specs.declared.good.Kind.the-variants.{Proposal, Answer, Site}
 use Rattle.sheets.proofs.RunLaws.{records-cons, records-none, record-here, contexts-here, contexts-none, no-run}
 
 -- ---- `zeros`
@@ -87,8 +89,24 @@ module _ (x a : List ℕ) (e : x ≡ a) (b : Bool) where
 
 pub ruleset one-laws = (and-step, no-here, call-not, call-yes, eq-eqb, ne-eqb, le-leb, lt-leb, both-of, not-left, not-right, name-yes, name-not, name-as, transfer-as, needs)
 
+-- ---- `record_ok`
+module _ (k : Kind) (r : List ℕ) (b : Bool) where
+  pub kind-proposal : k ≡ Proposal → b ≡ proposalRecord r → b ≡ recordOk k r
+  unfolding recordOk
+  kind-proposal e q = q ∙ rw e
+
+  pub kind-answer : k ≡ Answer → b ≡ answerRecord r → b ≡ recordOk k r
+  unfolding recordOk
+  kind-answer e q = q ∙ rw e
+
+  pub kind-site : k ≡ Site → b ≡ siteRecord r → b ≡ recordOk k r
+  unfolding recordOk
+  kind-site e q = q ∙ rw e
+
+pub ruleset kind-laws = (needs, kind-proposal, kind-answer, kind-site)
+
 -- ---- `records_ok`
-module _ (k : Bool) (s : List ℕ) (at : ℕ) (v : all (recordOk k) (recordsOf (drop at s)) ≡ all (recordOk k) (recordsOf s)) (w : length s % 132 ≡ 0) (z : at % 132 ≡ 0) where
+module _ (k : Kind) (s : List ℕ) (at : ℕ) (v : all (recordOk k) (recordsOf (drop at s)) ≡ all (recordOk k) (recordsOf s)) (w : length s % 132 ≡ 0) (z : at % 132 ≡ 0) where
   pub all-next : (x : List ℕ) (b : Bool) → at < length s → x ≡ take 132 (drop at s) → b ≡ recordOk k x → not b ≡ false → all (recordOk k) (recordsOf (drop (at + 132) s)) ≡ all (recordOk k) (recordsOf s)
   all-next x b h e q t =
       let g : recordOk k (take 132 (drop at s)) ≡ true = ap (recordOk k) (sym e) ∙ (sym q ∙ not-false b t) in
@@ -162,12 +180,12 @@ start-good r cs k = go cs (goesOn r cs) refl k
         rw (le-leb 1 (length (transferOf r ∷ c .transfers)) (omega arith), i, a)
         (join (odd (c .id)) (nameOk (c .abstr)) (nameOk (transferOf r)) (leb 1 (length (c .transfers))) (all nameOk (c .transfers)) (all contextOk cs) (left-of (some c) _ k))
 
-pub records-proposal : (rs : List (List ℕ)) → all (recordOk false) rs ≡ (all proposes rs && all contextOk (sheetRuns rs))
+pub records-proposal : (rs : List (List ℕ)) → all (recordOk Proposal) rs ≡ (all proposes rs && all contextOk (sheetRuns rs))
 unfolding sheetRuns recordOk proposalRecord
 records-proposal [] = refl
 records-proposal (r ∷ rs) = rw (records-proposal rs, start-good r (sheetRuns rs) (runs-some rs)) (across (proposes r) (alone r) (all proposes rs) (all contextOk (sheetRuns rs)))
 
-pub records-answer : (rs : List (List ℕ)) → all (recordOk true) rs ≡ (all answers rs && all answeredOk (map answeredOf rs))
+pub records-answer : (rs : List (List ℕ)) → all (recordOk Answer) rs ≡ (all answers rs && all answeredOk (map answeredOf rs))
 unfolding recordOk answerRecord
 records-answer [] = refl
 records-answer (r ∷ rs) = rw (records-answer rs) (across (answers r) (answeredOk (answeredOf r)) (all answers rs) (all answeredOk (map answeredOf rs)))
@@ -182,15 +200,17 @@ unfolding answeredOf
 answered-ids [] = refl
 answered-ids (r ∷ rs) = rw (answered-ids rs)
 
-pub sheet-none : (answer : Bool) (s : List ℕ) → length s ≡ 0 → false ≡ sheetOk answer s
-unfolding sheetOk proposalOk contextsOk answersOk allAnsweredOk answersIn
-sheet-none true s e = rw (records-none s (omega arith)) (simp and-false)
-sheet-none false s e = rw (contexts-none s 0 (omega arith)) (simp and-false)
+pub sheet-none : (k : Kind) (s : List ℕ) → length s ≡ 0 → false ≡ sheetOk k s
+unfolding sheetOk proposalOk contextsOk answersOk allAnsweredOk answersIn siteOk
+sheet-none Proposal s e = rw (contexts-none s 0 (omega arith)) (simp and-false)
+sheet-none Answer s e = rw (records-none s (omega arith)) (simp and-false)
+sheet-none Site s e = rw (records-none s (omega arith)) (simp and-false)
 
-pub sheet-part : (answer : Bool) (s : List ℕ) → (length s % 132 ≡ 0 → ⊥) → false ≡ sheetOk answer s
-unfolding sheetOk proposalOk answersOk
-sheet-part true s n = simp (ne-eqb _ _ n)
-sheet-part false s n = simp (ne-eqb _ _ n)
+pub sheet-part : (k : Kind) (s : List ℕ) → (length s % 132 ≡ 0 → ⊥) → false ≡ sheetOk k s
+unfolding sheetOk proposalOk answersOk siteOk
+sheet-part Proposal s n = simp (ne-eqb _ _ n)
+sheet-part Answer s n = simp (ne-eqb _ _ n)
+sheet-part Site s n = simp (ne-eqb _ _ n)
 
 module _ (s : List ℕ) (n : length s ≡ 0 → ⊥) (m : length s % 132 ≡ 0) where
   some-context : leb 1 (length (contextsIn s)) ≡ true
@@ -201,32 +221,42 @@ module _ (s : List ℕ) (n : length s ≡ 0 → ⊥) (m : length s % 132 ≡ 0) 
   unfolding answersIn
   some-answer = let e = ap length (records-cons s (omega arith)) in le-leb 1 (length (answersIn s)) (omega (arith, length-map (recordsOf s) answeredOf))
 
-  -- the IDs that may not come twice
-  abbrev sheetIds : Bool → List ℕ
-  sheetIds answer = cond answer (idsIn s) (map contextId (contextsIn s))
+  some-record : leb 1 (length (recordsOf s)) ≡ true
+  some-record = let e = ap length (records-cons s (omega arith)) in le-leb 1 (length (recordsOf s)) (omega arith)
 
-  sheet-is : (answer : Bool) → sheetOk answer s ≡ (all (recordOk answer) (recordsOf s) && distinct (sheetIds answer))
-  unfolding sheetOk proposalOk contextsOk contextsIn answersOk allAnsweredOk answersIn idsIn
-  sheet-is false =
+  -- the IDs that may not come twice
+  abbrev sheetIds : Kind → List ℕ
+  sheetIds Proposal = map contextId (contextsIn s)
+  sheetIds Answer = idsIn s
+  sheetIds Site = []
+
+  sheet-is : (k : Kind) → sheetOk k s ≡ (all (recordOk k) (recordsOf s) && distinct (sheetIds k))
+  unfolding sheetOk proposalOk contextsOk contextsIn answersOk allAnsweredOk answersIn siteOk recordOk idsIn distinct
+  sheet-is Proposal =
       rw (eq-eqb _ _ m, some-context, records-proposal (recordsOf s)) (together (all proposes (recordsOf s)) (all contextOk (contextsIn s)) (distinct (map contextId (contextsIn s))))
-  sheet-is true =
+  sheet-is Answer =
       rw (eq-eqb _ _ m, some-answer, records-answer (recordsOf s), ← answered-ids (recordsOf s))
       (together (all answers (recordsOf s)) (all answeredOk (map answeredOf (recordsOf s))) (distinct (map answeredId (map answeredOf (recordsOf s)))))
+  sheet-is Site = rw (eq-eqb _ _ m, some-record) (sym (and-true (all siteRecord (recordsOf s))))
 
-  module _ (answer b : Bool) (q : b ≡ all (recordOk answer) (recordsOf s)) where
-    pub sheet-bad : not b ≡ true → false ≡ sheetOk answer s
-    sheet-bad t = sym (sheet-is answer ∙ simp (sym q ∙ not-true b t))
+  module _ (k : Kind) (b : Bool) (q : b ≡ all (recordOk k) (recordsOf s)) where
+    pub sheet-bad : not b ≡ true → false ≡ sheetOk k s
+    sheet-bad t = sym (sheet-is k ∙ simp (sym q ∙ not-true b t))
 
-    sheet-rest : not b ≡ false → sheetOk answer s ≡ distinct (sheetIds answer)
-    sheet-rest t = sheet-is answer ∙ simp (sym q ∙ not-false b t)
+    sheet-rest : not b ≡ false → sheetOk k s ≡ distinct (sheetIds k)
+    sheet-rest t = sheet-is k ∙ simp (sym q ∙ not-false b t)
 
-    pub sheet-answer : (d : Bool) → not b ≡ false → answer ≡ true → d ≡ distinct (idsIn s) → d ≡ sheetOk answer s
-    sheet-answer d t a e = e ∙ sym (sheet-rest t ∙ rw a)
-
-    pub sheet-proposal : (d : Bool) → not b ≡ false → answer ≡ false → d ≡ distinct (map contextId (contextsIn s)) → d ≡ sheetOk answer s
+    pub sheet-proposal : (d : Bool) → not b ≡ false → k ≡ Proposal → d ≡ distinct (map contextId (contextsIn s)) → d ≡ sheetOk k s
     sheet-proposal d t a e = e ∙ sym (sheet-rest t ∙ rw a)
 
-pub ruleset sheet-laws = (needs, sheet-none, sheet-part, sheet-bad, sheet-answer, sheet-proposal)
+    pub sheet-answer : (d : Bool) → not b ≡ false → k ≡ Answer → d ≡ distinct (idsIn s) → d ≡ sheetOk k s
+    sheet-answer d t a e = e ∙ sym (sheet-rest t ∙ rw a)
+
+    pub sheet-site : not b ≡ false → k ≡ Site → true ≡ sheetOk k s
+    unfolding distinct
+    sheet-site t a = sym (sheet-rest t ∙ rw a)
+
+pub ruleset sheet-laws = (needs, sheet-none, sheet-part, sheet-bad, sheet-proposal, sheet-answer, sheet-site)
 
 -- ---- one bad record, whatever the others and however many
 all-but : (p : List ℕ → Bool) (s : List ℕ) (k : ℕ) → 132 * k + 132 ≤ length s → p (recordAt s (132 * k)) ≡ false → all p (recordsOf s) ≡ false
@@ -241,5 +271,5 @@ unfolding recordOk sheetOk
 bad-record s k h e = go (eqb (length s % 132) 0) refl
   where
     go : (b : Bool) → eqb (length s % 132) 0 ≡ b → proposalOk s ≡ false
-    go true q = sym (sheet-bad s (λ z. omega arith) (eqb-true _ _ q) false (all (recordOk false) (recordsOf s)) refl (rw (all-but (recordOk false) s k h e)))
-    go false q = sym (sheet-part false s (eqb-false _ _ q))
+    go true q = sym (sheet-bad s (λ z. omega arith) (eqb-true _ _ q) Proposal (all (recordOk Proposal) (recordsOf s)) refl (rw (all-but (recordOk Proposal) s k h e)))
+    go false q = sym (sheet-part Proposal s (eqb-false _ _ q))

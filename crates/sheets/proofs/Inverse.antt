@@ -16,7 +16,7 @@ use Rattle.names.specs.Name.{nameOk}
 use Rattle.names.proofs.NameLaws.{name-short}
 use Rattle.octets.specs.Octets.{odd}
 use Rattle.sheets.specs.Contexts.{Context, Answered, contextId, answeredId, contextOk, transferNameOk, answeredOk, contextsOk, allAnsweredOk}
-use Rattle.sheets.specs.Sheet.{field, recordBytes, contextRecords, sheetOf, answerSheetOf, recordsOf, recordId, abstractOf, transferOf, goesOn, firstTransfers, others, start, sheetRuns, contextsIn, answeredOf, answersIn, zero?, fieldOk, fieldsOk, proposes, answers, proposalOk, answersOk}
+use Rattle.sheets.specs.Sheet.{field, recordBytes, contextRecords, sheetOf, answerSheetOf, recordsOf, recordId, abstractOf, transferOf, goesOn, firstTransfers, others, start, sheetRuns, contextsIn, answeredOf, answersIn, zero?, fieldOk, fieldsOk, proposes, siteRecord, answers, proposalOk, answersOk, siteOk}
 use Rattle.sheets.proofs.RecordLaws.{cap-low, field-length, record-length}
 use Rattle.sheets.proofs.RunLaws.{records-cons, no-run}
 
@@ -186,6 +186,10 @@ module _ (s : List ℕ) (k : answersOk s ≡ true) where
   answer-sheet-back =
       sheet-back answers (map answeredOf) answerSheetOf refl (λ r rs l g. ap (λ (b : List ℕ). b ++ answerSheetOf (map answeredOf rs)) (answers-back-one r l g))
       s answers-whole (answers-good .formed)
+
+pub site-whole : (s : List ℕ) → siteOk s ≡ true → length s % 132 ≡ 0
+unfolding siteOk
+site-whole s k = eqb-true _ _ (left-of _ (leb 1 (length (recordsOf s)) && all siteRecord (recordsOf s)) k)
 
 -- ---- what the record of two names says
 module _ (id result : ℕ) (a x : List ℕ) (h : length a ≤ 64) (l : length x ≤ 64) where

@@ -123,6 +123,10 @@ cap-most n = go (leb n 64) refl
 cut-at : (n : ℕ) (l : List ℕ) → length (take (cap n) l) ≤ 64
 cut-at n l = let c = cap-most n in omega (arith, length-take (cap n) l)
 
+pub transfer-most : (r : List ℕ) → length (transferOf r) ≤ 64
+unfolding transferOf
+transfer-most r = cut-at (getD r 3 0) (drop 68 r)
+
 name-short : (l b : ℕ) (s : List ℕ) (at : ℕ) → length (nameAt l b s at) ≤ 64
 unfolding nameAt
 name-short l b s at = go (leb (at + 132) (length s))

@@ -70,6 +70,15 @@ on-here s at h = go (leb (at + 132 + 132) (length s)) refl
         rw (contexts-here s (at + 132) l, id-here s at, id-here s (at + 132), ← abstract-here s at h, ← abstract-here s (at + 132) l) (simp q)
     go false q = rw (contexts-none s (at + 132) (leb-false _ _ q)) (simp q)
 
+-- a record that goes on a run is there
+pub on-there : (s : List ℕ) (at : ℕ) → goesOnAt s at ≡ true → at + 132 + 132 ≤ length s
+unfolding goesOnAt
+on-there s at e = go (leb (at + 132 + 132) (length s)) refl
+  where
+    go : (d : Bool) → leb (at + 132 + 132) (length s) ≡ d → at + 132 + 132 ≤ length s
+    go true q = leb-true _ _ q
+    go false q = absurd (held false (simp q at e))
+
 -- ---- what a record in front does to the IDs
 same-id : (r : List ℕ) (c : Context) (cs : List Context) → goesOn r (c ∷ cs) ≡ true → recordId r ≡ c .id
 unfolding goesOn

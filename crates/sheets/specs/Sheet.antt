@@ -105,9 +105,12 @@ fieldsOk r = fieldOk (getD r 2 0) (take 64 (drop 4 r)) && fieldOk (getD r 3 0) (
 unfoldable pub proposes : List ℕ → Bool
 proposes r = eqb (getD r 1 0) 0 && fieldsOk r
 
+abbrev pub named : List ℕ → Bool
+named r = nameOk (abstractOf r) && nameOk (transferOf r)
+
 -- a record that may stand in a proposal
 unfoldable pub proposalRecord : List ℕ → Bool
-proposalRecord r = proposes r && (odd (recordId r) && (nameOk (abstractOf r) && nameOk (transferOf r)))
+proposalRecord r = proposes r && (odd (recordId r) && named r)
 
 -- "In an answer the abstract length is 0"
 unfoldable pub answers : List ℕ → Bool
@@ -119,3 +122,11 @@ proposalOk s = eqb (length s % RECORD) 0 && (all proposes (recordsOf s) && conte
 
 unfoldable pub answersOk : List ℕ → Bool
 answersOk s = eqb (length s % RECORD) 0 && (all answers (recordsOf s) && allAnsweredOk (answersIn s))
+
+-- a record that may stand on a site's sheet: "ID and result 0, names as in a proposal"
+unfoldable pub siteRecord : List ℕ → Bool
+siteRecord r = proposes r && (eqb (recordId r) 0 && named r)
+
+-- "Each site keeps a sheet of one or more 132-byte records"
+unfoldable pub siteOk : List ℕ → Bool
+siteOk s = eqb (length s % RECORD) 0 && (leb 1 (length (recordsOf s)) && all siteRecord (recordsOf s))

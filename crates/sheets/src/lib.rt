@@ -1,10 +1,11 @@
-// The context sheet: whether a proposal or an answer may be sent, a record made, and what one record says.
+// The context sheet: whether a proposal or an answer may be sent, or a site's sheet kept; a record made, and what one record says.
 mod good;
 mod ids;
 mod record;
 
 pub use good::answers_ok;
 pub use good::proposal_ok;
+pub use good::site_ok;
 pub use record::abstract_at;
 pub use record::goes_on;
 pub use record::record_of;

@@ -8,7 +8,7 @@ use mathlib.Core.Path.{_≡_, refl, sym, ap, _∙_}
 use lib.ListN.{length, drop, getD, length-append}
 use lib.Dec.{leb}
 use borrow.Author.Needs.{needs}
-use borrow.Author.Tests.{leb-true, leb-false, le-leb, lt-leb}
+use borrow.Author.Tests.{le-leb, lt-leb}
 use Rattle.numbers.specs.Lengths.{LONGEST, RECORD}
 use Rattle.octets.specs.Put.{put, Placed}
 use Rattle.octets.specs.Private.Put.{Put}
@@ -19,7 +19,7 @@ use Rattle.sheets.specs.Contexts.{Context}
 use Rattle.sheets.specs.Sheet.{abstractOf, transferOf, goesOn, firstTransfers, others, start, contextsIn, answeredOf, answersIn}
 use Rattle.sheets.specs.Record.{recordAt, abstractAt, transferAt, goesOnAt}
 use Rattle.sheets.proofs.RecordLaws.{abstract-here, transfer-here, abstract-short, transfer-short}
-use Rattle.sheets.proofs.RunLaws.{contexts-here, contexts-none, answers-here, answers-none, id-here, result-here, on-here, no-run}
+use Rattle.sheets.proofs.RunLaws.{contexts-here, contexts-none, answers-here, answers-none, id-here, result-here, on-here, on-there}
 use Rattle.writing.specs.Wire.{contextBody, answerBody}
 use Rattle.writing_associate.specs.Private.ContextItems.{runBytes, openBytes, contextBytes, contextHead, leadBytes, stepBytes, Ready, capped}
 
@@ -142,11 +142,7 @@ run-start s at x h e = run-here s at h ∙ rw e
 module _ (s : List ℕ) (at n all : ℕ) (b : Bool) (v : all ≡ n + runAfter s at) (p : b ≡ goesOnAt s at) where
   -- a record that goes on a run is there
   pub run-more : b ≡ true → at + RECORD ≤ length s → at + RECORD + RECORD ≤ length s
-  run-more t h = go (leb (at + RECORD + RECORD) (length s)) refl
-    where
-      go : (d : Bool) → leb (at + RECORD + RECORD) (length s) ≡ d → at + RECORD + RECORD ≤ length s
-      go true q = leb-true _ _ q
-      go false q = absurd (no-run (recordAt s at) (ap (goesOn (recordAt s at)) (sym (contexts-none s (at + RECORD) (leb-false _ _ q))) ∙ (sym (on-here s at h) ∙ (sym p ∙ t))))
+  run-more t h = on-there s at (sym p ∙ t)
 
   pub run-next : (x : ℕ) → b ≡ true → at + RECORD ≤ length s → x ≡ length (transferAt s (at + RECORD)) → all ≡ n + (4 + x) + runAfter s (at + RECORD)
   unfolding runAfter

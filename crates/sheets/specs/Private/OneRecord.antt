@@ -1,20 +1,27 @@
 -- For the private functions: the test of one record by itself, and the records' IDs. No public contract cites it.
 use Prim.Native.Nat.{ℕ}
-use mathlib.Core.Bool.{Bool, _&&_, cond}
+use mathlib.Core.Bool.{Bool, _&&_}
 use mathlib.Core.List.{List, map}
 use Rattle.sheets.specs.Contexts.{answeredOk}
-use Rattle.sheets.specs.Sheet.{recordsOf, recordId, answeredOf, answers, proposalRecord, proposalOk, answersOk}
+use Rattle.sheets.specs.Sheet.{recordsOf, recordId, answeredOf, answers, proposalRecord, siteRecord, proposalOk, answersOk, siteOk}
+use Rattle.sheets.specs.declared.good.Kind.{Kind}
+use Rattle.sheets.specs.declared.good.Kind.the-variants.{Proposal, Answer, Site}
 
--- a record that may stand in an answer, or in the one of the two that `answer` says
+-- a record that may stand in an answer
 unfoldable pub answerRecord : List ℕ → Bool
 answerRecord r = answers r && answeredOk (answeredOf r)
 
-unfoldable pub recordOk : Bool → List ℕ → Bool
-recordOk answer r = cond answer (answerRecord r) (proposalRecord r)
+-- a record that may stand in a sheet of this kind
+unfoldable pub recordOk : Kind → List ℕ → Bool
+recordOk Proposal r = proposalRecord r
+recordOk Answer r = answerRecord r
+recordOk Site r = siteRecord r
 
--- a sheet that may be sent as the one that `answer` says
-unfoldable pub sheetOk : Bool → List ℕ → Bool
-sheetOk answer s = cond answer (answersOk s) (proposalOk s)
+-- a good sheet of this kind
+unfoldable pub sheetOk : Kind → List ℕ → Bool
+sheetOk Proposal s = proposalOk s
+sheetOk Answer s = answersOk s
+sheetOk Site s = siteOk s
 
 unfoldable pub idsIn : List ℕ → List ℕ
 idsIn s = map recordId (recordsOf s)

@@ -1,14 +1,13 @@
 -- `record_ok` meets its contract.
 -- Assumes nothing.
-use Rattle.laws.proofs.Tests.{decide}
-use Rattle.sheets.specs.Private.OneRecord.{recordOk}
+use Rattle.sheets.proofs.GoodLaws.{kind-laws}
 use Rattle.sheets.proofs.good.record_ok.Statement.{statement}
 use Rattle.sheets.proofs.good.record_ok.Tie as tie
 
 pub record-ok-spec : {M : Type 1} → statement M
-unfolding recordOk
 record-ok-spec =
     tie.close
     (tie.spec
-    (λ c κs. search decide) (λ c. search decide) (λ c κs. search decide)  -- answer-record-requires, returns, proposal-record-requires
-    (λ c. search decide))  -- returns-2
+    (λ c. search kind-laws) (λ c κs. search kind-laws) (λ c. search kind-laws)  -- enum-told, proposal-record-requires, enum-told-2
+    (λ c κs. search kind-laws) (λ c. search kind-laws) (λ c κs. search kind-laws)  -- answer-record-requires, enum-told-3, site-record-requires
+    (λ c. search kind-laws) (λ c. search kind-laws) (λ c. search kind-laws))  -- returns, returns-2, returns-3

@@ -9,5 +9,6 @@ sheet-ok-spec =
     tie.close
     (tie.spec
     (λ c. search sheet-laws) (λ c. search sheet-laws) (λ c κs. search sheet-laws)  -- returns, returns-2, records-ok-requires
-    (λ c. search sheet-laws) (λ c κs. search sheet-laws) (λ c. search sheet-laws)  -- returns-3, ids-differ-requires, returns-4
-    (λ c κs. search sheet-laws) (λ c. search sheet-laws))  -- runs-differ-requires, returns-5
+    (λ c. search sheet-laws) (λ c. search sheet-laws) (λ c κs. search sheet-laws)  -- returns-3, enum-told, runs-differ-requires
+    (λ c. search sheet-laws) (λ c κs. search sheet-laws) (λ c. search sheet-laws)  -- enum-told-2, ids-differ-requires, enum-told-3
+    (λ c. search sheet-laws) (λ c. search sheet-laws) (λ c. search sheet-laws))  -- returns-4, returns-5, returns-6
