@@ -21,6 +21,7 @@ use Rattle.feohanna.proofs.readers.feo_raw_read_reject as read-reject
 use Rattle.feohanna.proofs.readers.feo_raw_read_abort as read-abort
 use Rattle.feohanna.proofs.readers.feo_raw_read_data as read-data
 use Rattle.feohanna.proofs.readers.feo_raw_pdv_at as pdv-at
+use Rattle.feohanna.proofs.choose.feo_raw_choose as choose
 use Rattle.feohanna.proofs.title.feo_raw_title_known as title-known
 
 -- what is handed out beside the refusal
@@ -78,6 +79,10 @@ feo-raw-read-data-agrees κs args a b x y p q = (ap (λ f. f .refusal) (agree p 
 pub feo-raw-pdv-at-agrees : AgreesLent 5 pdv-at.Kinds.ps pdv-at.Kinds.r pdv-at.Reads.Post
     (λ κs x. pdvFields 0 (now (x .1 .1 .0)) (now (x .1 .1 .1 .0)) (now (x .1 .1 .1 .1 .0)) (now (x .1 .1 .1 .1 .1 .0)))
 feo-raw-pdv-at-agrees κs args a b x y p q = (ap (λ f. f .refusal) (agree p q), ap (λ f. pdvFields 0 (f .id) (f .control) (f .start) (f .len)) (agree p q))
+
+pub feo-raw-choose-agrees : AgreesLent {L = ℕ × List ℕ} 4 choose.Kinds.ps choose.Kinds.r choose.Reads.Post
+    (λ κs x. (now (x .1 .1 .1 .0), now (x .1 .1 .0)))
+feo-raw-choose-agrees κs args a b x y p q = (ap (λ c. c .refusal) (agree (p .answer) (q .answer)), λ i. (agree (p .answer) (q .answer) i .records, agree (p .sheet) (q .sheet) i))
 
 pub feo-raw-title-known-agrees : AgreesLent 3 title-known.Kinds.ps title-known.Kinds.r title-known.Reads.Post
     (λ κs x. now (x .1 .1 .0))

@@ -1,9 +1,10 @@
--- The answers of the reading calls, from the numbers that are handed out one by one.
+-- The answers of the reading calls and of choosing, from the numbers that are handed out one by one.
 use Prim.Native.Nat.{ℕ}
 use Rattle.reading.specs.declared.associate.Associate.{Associate}
 use Rattle.reading.specs.declared.values.RejectRead.{RejectRead}
 use Rattle.reading.specs.declared.values.AbortRead.{AbortRead}
 use Rattle.reading.specs.declared.data.DataRead.{DataRead}
+use Rattle.choosing.specs.declared.Chosen.{Chosen}
 
 abbrev pub associate : ℕ → ℕ → ℕ → ℕ → ℕ → ℕ → Associate
 associate refusal version at len maximum records =
@@ -17,3 +18,6 @@ abort refusal source reason = record { refusal = refusal; source = source; reaso
 
 abbrev pub pdvFields : ℕ → ℕ → ℕ → ℕ → ℕ → DataRead
 pdvFields refusal id control start len = record { refusal = refusal; id = id; control = control; start = start; len = len }
+
+abbrev pub chosenFields : ℕ → ℕ → Chosen
+chosenFields refusal records = record { refusal = refusal; records = records }

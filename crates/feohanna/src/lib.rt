@@ -1,5 +1,6 @@
 // The C surface: functions on numbers and byte slices, thin over the calls by value. include/feohanna.h wraps them for a host.
 mod calls;
+mod choose;
 mod fresh;
 mod readers;
 mod title;
@@ -10,6 +11,7 @@ pub use calls::feo_raw_event;
 pub use calls::feo_raw_receive;
 pub use calls::feo_raw_reject;
 pub use calls::feo_raw_send;
+pub use choose::feo_raw_choose;
 pub use fresh::feo_raw_fresh;
 pub use readers::feo_raw_pdv_at;
 pub use readers::feo_raw_read_abort;

@@ -1,0 +1,173 @@
+-- Laws of the call: the answers put one behind the other, and each way through the tests.
+-- Assumes nothing.
+use Prim.Native.Nat.{ℕ, _+_, _-_, _*_, _/_, _%_, _≤_, _<_}
+use native.Mathlib.Omega.{arith}
+use mathlib.Core.Bool.{Bool, true, false, not, cond}
+use mathlib.Core.List.{List, [], _∷_, _++_, map}
+use mathlib.Core.Path.{_≡_, refl, sym, ap, _∙_}
+use lib.ListN.{length, take, drop, length-append, length-drop}
+use lib.Seq.{length-take-le}
+use lib.Dec.{ltb, eqb}
+use borrow.Author.Needs.{needs}
+use borrow.Author.Tests.{lt-ltb, le-ltb, not-true, not-false}
+use Rattle.numbers.specs.Lengths.{RECORD}
+use Rattle.numbers.specs.Refusals.{NOT-REFUSED, SHORT-OUTPUT, BAD-CONTENTS}
+use Rattle.octets.specs.Put.{put, front, Placed}
+use Rattle.octets.specs.Private.Put.{Put}
+use Rattle.octets.proofs.PutLaws.{put-put, put-length, put-none, put-front, placed-put}
+use Rattle.sheets.specs.Contexts.{Context}
+use Rattle.sheets.specs.Sheet.{transferOf, recordsOf, answerSheetOf, contextsIn, proposalOk, siteOk}
+use Rattle.sheets.proofs.RecordLaws.{transfer-most, record-length}
+use Rattle.sheets.proofs.RunLaws.{contexts-none}
+use Rattle.sheets.proofs.Inverse.{proposal-whole, site-whole}
+use Rattle.choosing.specs.Choice.{Liked, likedOf, siteIn, matches, firstProposed, transferFor, chosen, chosenFor}
+use Rattle.choosing.specs.Call.{chosenSheet, chooseRefusal, chosenOf, chosenBytes, Chose}
+use Rattle.choosing.specs.declared.Chosen.{Chosen}
+use Rattle.choosing.specs.Private.Runs.{runContext, Run, answerRecord}
+use Rattle.choosing.proofs.RunLaws.{run-length}
+
+-- ---- the record of an answer has its 132 bytes, since the name of any record fits its field
+transfers-most : (rs : List (List ℕ)) → length (firstProposed (record { id = 0; abstr = []; transfers = map transferOf rs })) ≤ 64
+unfolding firstProposed
+transfers-most [] = omega arith
+transfers-most (r ∷ rs) = transfer-most r
+
+chosen-most : (run : List ℕ) (rs : List (List ℕ)) → length (transferFor (runContext run) (map likedOf rs)) ≤ 64
+unfolding transferFor firstProposed runContext likedOf
+chosen-most run [] = transfers-most (recordsOf run)
+chosen-most run (r ∷ rs) = go (matches (runContext run) (likedOf r)) (chosen-most run rs)
+  where
+    go : (b : Bool) → length (transferFor (runContext run) (map likedOf rs)) ≤ 64 → length (cond b (transferOf r) (transferFor (runContext run) (map likedOf rs))) ≤ 64
+    go true k = transfer-most r
+    go false k = k
+
+pub answer-long : (run site : List ℕ) → length (answerRecord (chosen (siteIn site) (runContext run))) ≡ RECORD
+unfolding answerRecord chosen siteIn
+answer-long run site = record-length _ _ [] _ (omega arith) (chosen-most run (recordsOf site))
+
+-- ---- `put_answers`: the answers from `at` on
+unfoldable pub restOf : List ℕ → List ℕ → ℕ → List ℕ
+restOf s site at = answerSheetOf (chosenFor (siteIn site) (contextsIn (drop at s)))
+
+abbrev answerAt : List ℕ → List ℕ → ℕ → ℕ → List ℕ
+answerAt s site at e = answerRecord (chosen (siteIn site) (runContext (take (e - at) (drop at s))))
+
+rest-here : (s site : List ℕ) (at e : ℕ) → Run s at e → restOf s site at ≡ answerAt s site at e ++ restOf s site e
+unfolding restOf answerSheetOf chosenFor answerRecord
+rest-here s site at e r = rw (r .first)
+
+rest-over : (s site : List ℕ) (at : ℕ) → length s ≤ at → restOf s site at ≡ []
+unfolding restOf answerSheetOf chosenFor
+rest-over s site at h = rw (contexts-none s at (omega arith))
+
+pub record Putting (o₀ s site o : List ℕ) (n at : ℕ) : Type 0 where
+  pub place : at % RECORD ≡ 0
+  pub to : at ≤ length s
+  pub room : n + RECORD * length (contextsIn (drop at s)) ≤ length o
+  pub long : length o ≡ length o₀
+  pub whole : put o₀ 0 (restOf s site 0) ≡ put o n (restOf s site at)
+  pub count : length (restOf s site 0) ≡ n + length (restOf s site at)
+
+pub put-start : (o s site : List ℕ) → RECORD * length (contextsIn s) ≤ length o → Putting o s site o 0 0
+put-start o s site h = record { place = refl; to = omega arith; room = omega arith; long = refl; whole = refl; count = omega arith }
+
+module _ (o₀ s site o : List ℕ) (n at : ℕ) (v : Putting o₀ s site o n at) where
+  pub put-place : at % RECORD ≡ 0
+  put-place = v .place
+
+  pub put-long : length o ≡ length o₀
+  put-long = v .long
+
+  module _ (e : ℕ) (r : Run s at e) where
+    pub put-from : at ≤ e
+    put-from = let m = r .some in omega arith
+
+    pub put-to : e ≤ length s
+    put-to = r .to
+
+    run-long : length (take (e - at) (drop at s)) ≡ e - at
+    run-long = let t = r .to in length-take-le (e - at) (drop at s) (omega (arith, length-drop at s))
+
+    pub put-run : RECORD ≤ length (take (e - at) (drop at s))
+    put-run = let l = run-long in let m = r .some in omega arith
+
+    pub put-records : length (take (e - at) (drop at s)) % RECORD ≡ 0
+    put-records = let l = run-long in let w = r .whole in let z = v .place in let m = r .some in omega arith
+
+    pub put-less : length s - e < length s - at
+    put-less = let m = r .some in let t = r .to in omega arith
+
+    module _ (a : List ℕ) (q : a ≡ answerRecord (chosen (siteIn site) (runContext (take (e - at) (drop at s))))) where
+      pub put-whole : length a ≡ RECORD
+      put-whole = ap length q ∙ answer-long (take (e - at) (drop at s)) site
+
+      pub put-next : (m : ℕ) (o′ : List ℕ) → Placed o n a m o′ → Putting o₀ s site o′ m e
+      put-next m o′ p =
+          let l = put-whole in
+          let k = run-length s at e r in
+          let w = v .room in
+          let c = v .count in
+          let d = placed-put o n a p (omega arith) in
+          let j = d .behind in
+          let h : length o′ ≡ length o = ap length (d .out) ∙ put-length o n a (omega arith) in
+          let i : restOf s site at ≡ a ++ restOf s site e = rest-here s site at e r ∙ ap (λ (b : List ℕ). b ++ restOf s site e) (sym q) in
+          let f : length (restOf s site at) ≡ length a + length (restOf s site e) = ap length i ∙ length-append a (restOf s site e) in
+          record {
+            place = r .whole;
+            to = r .to;
+            room = omega arith;
+            long = h ∙ v .long;
+            whole = v .whole ∙ (ap (put o n) i ∙ (sym (put-put o n a (restOf s site e) (omega arith)) ∙ rw (d .out, j)));
+            count = omega arith;
+          }
+
+  pub put-done : length s ≤ at → Put o₀ 0 (chosenSheet s site) n o
+  unfolding chosenSheet restOf
+  put-done h =
+      let z = rest-over s site at h in
+      let c = v .count in
+      let l = ap length z in
+      record { behind = omega arith; out = sym (v .whole ∙ (ap (put o n) z ∙ put-none o n)) }
+
+pub ruleset put-laws = (needs, put-start, put-place, put-long, put-from, put-to, put-run, put-records, put-less, put-whole, put-next, put-done)
+
+-- ---- `choose`
+pub bad-proposal : (s site o : List ℕ) (b : Bool) → b ≡ proposalOk s → not b ≡ true → Chose s site o (record { refusal = BAD-CONTENTS; records = 0 }) o
+unfolding chosenOf chosenBytes chooseRefusal front
+bad-proposal s site o b e t = let k : proposalOk s ≡ false = sym e ∙ not-true b t in record { answer = simp k; sheet = simp k }
+
+module _ (s site o : List ℕ) (b : Bool) (e : b ≡ proposalOk s) (t : not b ≡ false) (d : Bool) (f : d ≡ siteOk site) where
+  good-proposal : proposalOk s ≡ true
+  good-proposal = sym e ∙ not-false b t
+
+  pub bad-site : not d ≡ true → Chose s site o (record { refusal = BAD-CONTENTS; records = 0 }) o
+  unfolding chosenOf chosenBytes chooseRefusal front
+  bad-site u = let k : siteOk site ≡ false = sym f ∙ not-true d u in record { answer = simp (good-proposal, k); sheet = simp (good-proposal, k) }
+
+  pub good-whole : length s % RECORD ≡ 0
+  good-whole = proposal-whole s good-proposal
+
+  module _ (u : not d ≡ false) where
+    good-site : siteOk site ≡ true
+    good-site = sym f ∙ not-false d u
+
+    pub good-records : length site % RECORD ≡ 0
+    good-records = site-whole site good-site
+
+    module _ (n : ℕ) (k : n ≡ length (contextsIn s)) where
+      pub no-room : length o / 132 < n → Chose s site o (record { refusal = SHORT-OUTPUT; records = 0 }) o
+      unfolding chosenOf chosenBytes chooseRefusal front
+      no-room h =
+          let l : ltb (length o) (RECORD * length (contextsIn s)) ≡ true = lt-ltb (length o) (RECORD * length (contextsIn s)) (omega arith) in
+          record { answer = simp (good-proposal, good-site, l); sheet = simp (good-proposal, good-site, l) }
+
+      pub some-room : n ≤ length o / 132 → RECORD * length (contextsIn s) ≤ length o
+      some-room h = omega arith
+
+      pub all-chosen : (m : ℕ) (o′ : List ℕ) → n ≤ length o / 132 → Put o 0 (chosenSheet s site) m o′ → Chose s site o (record { refusal = NOT-REFUSED; records = n }) o′
+      unfolding chosenOf chosenBytes chooseRefusal
+      all-chosen m o′ h p =
+          let l : ltb (length o) (RECORD * length (contextsIn s)) ≡ false = le-ltb (length o) (RECORD * length (contextsIn s)) (omega arith) in
+          record { answer = simp (good-proposal, good-site, l, k); sheet = p .out ∙ (rw (put-front o (chosenSheet s site)) (simp (good-proposal, good-site, l))) }
+
+pub ruleset choose-laws = (needs, bad-proposal, bad-site, good-whole, good-records, no-room, some-room, all-chosen)

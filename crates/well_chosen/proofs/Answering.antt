@@ -1,0 +1,229 @@
+-- An RQ that was read is never a bad proposal, its answers always have room in a sheet for 128, and the accept response takes them: the AC is no longer than the RQ.
+-- Assumes nothing.
+use Prim.Native.Nat.{ℕ, zero, suc, _+_, _-_, _*_, _/_, _≤_, _<_}
+use native.Mathlib.Omega.{arith}
+use native.Mathlib.Decide.{decLt}
+use mathlib.Core.Bool.{Bool, true, false, not, _&&_, cond}
+use mathlib.Core.List.{List, [], _∷_, _++_, map}
+use mathlib.Core.Path.{_≡_, refl, sym, ap, _∙_}
+use lib.ListN.{length, take, drop, getD, replicate, length-append, length-take, length-drop, length-map, List·getD-eq-default}
+use lib.Seq.{length-take-le, getD-take, getD-drop}
+use lib.Dec.{leb, ltb, eqb}
+use borrow.Author.Tests.{eqb-true, eq-eqb, lt-ltb, le-ltb, not-false}
+use Rattle.laws.specs.Lists.{all, records, distinct}
+use Rattle.laws.proofs.Booleans.{left-of, right-of, both-of}
+use Rattle.laws.proofs.Refusals.{not-due}
+use Rattle.numbers.specs.Kinds.{ASSOCIATE-RQ}
+use Rattle.numbers.specs.Lengths.{RECORD}
+use Rattle.numbers.specs.Refusals.{NOT-REFUSED, SHORT-OUTPUT, BAD-CONTENTS, NO-SUCH-PDU}
+use Rattle.octets.specs.Octets.{odd}
+use Rattle.octets.specs.Put.{front}
+use Rattle.octets.proofs.PutLaws.{front-start}
+use Rattle.names.specs.Name.{nameOk}
+use Rattle.titles.specs.Title.{titleOk}
+use Rattle.items.specs.Wire.{itemBytes, itemsBytes}
+use Rattle.items.proofs.WireLaws.{item-length}
+use Rattle.judging.specs.Pdu.{kindOf, calledOf, callingOf}
+use Rattle.judging.proofs.KindLaws.{kind-whole, whole-length, whole-limit, request-long}
+use Rattle.sheets.specs.Contexts.{Context, Answered, contextId, contextOk, contextsOk}
+use Rattle.sheets.specs.Sheet.{recordId, recordsOf, goesOn, others, start, sheetRuns, contextsIn, answersIn, proposalOk, siteOk}
+use Rattle.sheets.proofs.Inverse.{proposal-contexts}
+use Rattle.reading.specs.Associate.{proposed, applicationOf, applicationAt, sheetIn, fieldsOf, associateRefusal, associateOf, filling, Read}
+use Rattle.reading.specs.declared.associate.Associate.{Associate}
+use Rattle.reading.proofs.Meaning.{refusal-is, request-sheet-good, request-sheet-back, request-records, application-stands}
+use Rattle.writing.specs.Fields.{AcFields, rqGood, acGood}
+use Rattle.writing.specs.Wire.{ourUser, contextBody, answerBody, rqPdu, acPdu, associateBytes}
+use Rattle.writing.specs.Form.{rqForm, acForm, formRefusal, sentBytes}
+use Rattle.writing.proofs.FormLaws.{refusal-0}
+use Rattle.sheet_room.proofs.Distinct.{odds-most}
+use Rattle.round_trips.specs.Trips.{rqRead}
+use Rattle.round_trips.proofs.PduTrip.{associate-long}
+use Rattle.round_trips.proofs.Again.{rq-again-good, rq-again-short}
+use Rattle.round_trips.proofs.SentTrip.{sent-ac}
+use Rattle.choosing.specs.Choice.{Liked, siteIn, chosen, chosenFor}
+use Rattle.choosing.specs.Call.{chosenSheet, chooseRefusal, Chose}
+use Rattle.choosing.specs.declared.Chosen.{Chosen}
+use Rattle.well_chosen.specs.Meaning.{OneOf}
+use Rattle.well_chosen.specs.Answering.{recordsIn, Bytes, Chain, responseOf, Answering}
+use Rattle.well_chosen.proofs.Meaning.{was-proposed}
+use Rattle.well_chosen.proofs.Written as written
+
+-- ---- an answer takes no more bytes than the context that it answers
+name-in-items : (x : List ℕ) (xs : List (List ℕ)) (k : ℕ) → k < length xs → getD xs k [] ≡ x → 4 + length x ≤ length (itemsBytes 0x40 xs)
+name-in-items x [] k h e = absurd (omega arith)
+name-in-items x (y ∷ ys) zero h e = let l = ap length e in simp (length-append, item-length) (omega arith)
+name-in-items x (y ∷ ys) (suc k) h e = let r = name-in-items x ys k (omega arith) e in simp (length-append, item-length) (omega arith)
+
+answer-shorter : (ws : List Liked) (c : Context) → contextOk c ≡ true → length (answerBody (chosen ws c)) ≤ length (contextBody c)
+unfolding answerBody contextBody
+answer-shorter ws c g =
+    let o = was-proposed c g ws in
+    let l = name-in-items (chosen ws c .transfer) (c .transfers) (o .place) (o .there) (o .same) in
+    let a = item-length 0x40 (chosen ws c .transfer) in
+    let b = item-length 0x30 (c .abstr) in
+    let n = length-append (itemBytes 0x30 (c .abstr)) (itemsBytes 0x40 (c .transfers)) in
+    omega arith
+
+answers-shorter : (ws : List Liked) (cs : List Context) → all contextOk cs ≡ true → length (itemsBytes 0x21 (map answerBody (chosenFor ws cs))) ≤ length (itemsBytes 0x20 (map contextBody cs))
+unfolding chosenFor
+answers-shorter ws [] g = omega arith
+answers-shorter ws (c ∷ cs) g =
+    let l = answer-shorter ws c (left-of _ _ g) in
+    let r = answers-shorter ws cs (right-of (contextOk c) _ g) in
+    simp (length-append, item-length) (omega arith)
+
+-- ---- a good proposal has at most 128 contexts: its IDs are odd bytes, and none comes twice
+contexts-odd : (cs : List Context) → all contextOk cs ≡ true → all odd (map contextId cs) ≡ true
+unfolding contextOk
+contexts-odd [] g = refl
+contexts-odd (c ∷ cs) g = both-of (odd (c .id)) _ (left-of (odd (c .id)) _ (left-of _ _ g)) (contexts-odd cs (right-of (contextOk c) _ g))
+
+abbrev byte? : ℕ → Bool
+byte? x = ltb x 256
+
+runs-bytes : (rs : List (List ℕ)) → all (λ r. byte? (recordId r)) rs ≡ true → all byte? (map contextId (sheetRuns rs)) ≡ true
+unfolding sheetRuns start
+runs-bytes [] g = refl
+runs-bytes (r ∷ rs) g = both-of _ _ (left-of _ _ g) (go (sheetRuns rs) (goesOn r (sheetRuns rs)) (runs-bytes rs (right-of (byte? (recordId r)) _ g)))
+  where
+    go : (cs : List Context) (b : Bool) → all byte? (map contextId cs) ≡ true → all byte? (map contextId (cond b (others cs) cs)) ≡ true
+    go cs false h = h
+    go [] true h = h
+    go (c ∷ cs) true h = right-of (byte? (c .id)) _ h
+
+records-bytes : (n : ℕ) (s : List ℕ) → Bytes s → all (λ r. byte? (recordId r)) (records RECORD n s) ≡ true
+records-bytes zero s b = refl
+records-bytes (suc n) s b =
+    let h = b 0 in
+    both-of _ _ (lt-ltb (recordId (take RECORD s)) 256 (rw (getD-take RECORD s 0 0 (omega arith)) h)) (records-bytes n (drop RECORD s) (λ i. rw (getD-drop RECORD s i 0) (b (RECORD + i))))
+
+pub contexts-most : (s : List ℕ) → Bytes s → proposalOk s ≡ true → length (contextsIn s) ≤ 128
+unfolding contextsOk contextsIn recordsOf
+contexts-most s b g =
+    let k = proposal-contexts s g in
+    let r : (all contextOk (contextsIn s) && distinct (map contextId (contextsIn s))) ≡ true = right-of (leb 1 (length (contextsIn s))) _ k in
+    let n = odds-most 128 (map contextId (contextsIn s)) (right-of (all contextOk (contextsIn s)) _ r) (contexts-odd (contextsIn s) (left-of _ _ r)) (runs-bytes (recordsOf s) (records-bytes (length s / RECORD) s b)) in
+    let l = length-map (contextsIn s) contextId in
+    omega arith
+
+-- so with good sheets a sheet with room for 128 answers is never too short
+pub never-short : (proposal site : List ℕ) (room : ℕ) → Bytes proposal → proposalOk proposal ≡ true → siteOk site ≡ true → RECORD * 128 ≤ room → chooseRefusal proposal site room ≡ NOT-REFUSED
+unfolding chooseRefusal
+never-short proposal site room b p s h =
+    let n = contexts-most proposal b p in
+    rw (p, s, le-ltb room (RECORD * length (contextsIn proposal)) (omega arith))
+
+-- ---- what was read is the RQ's own sheet, a good proposal
+module _ (pdu sheet : List ℕ) (f : Associate) (sheet′ : List ℕ) (w : Read ASSOCIATE-RQ pdu sheet f sheet′) (z : f .refusal ≡ NOT-REFUSED) where
+  none-due : associateRefusal ASSOCIATE-RQ pdu (length sheet) ≡ NOT-REFUSED
+  none-due = sym (refusal-is ASSOCIATE-RQ pdu sheet f sheet′ w) ∙ z
+
+  is-request : kindOf pdu ≡ ASSOCIATE-RQ
+  is-request = eqb-true _ _ (not-false (eqb (kindOf pdu) ASSOCIATE-RQ) (not-due (not (eqb (kindOf pdu) ASSOCIATE-RQ)) NO-SUCH-PDU _ (λ e. omega arith) none-due .0))
+
+  fields-are : f ≡ fieldsOf ASSOCIATE-RQ pdu
+  unfolding associateOf
+  fields-are = w .answer ∙ simp (eq-eqb (associateRefusal ASSOCIATE-RQ pdu (length sheet)) NOT-REFUSED none-due)
+
+  filled-with : sheet′ ≡ front sheet (sheetIn ASSOCIATE-RQ pdu)
+  unfolding filling
+  filled-with = w .sheet ∙ simp (eq-eqb (associateRefusal ASSOCIATE-RQ pdu (length sheet)) NOT-REFUSED none-due)
+
+  pub read-given-on : recordsIn (f .records) sheet′ ≡ sheetIn ASSOCIATE-RQ pdu
+  read-given-on =
+      let n : f .records ≡ length (sheetIn ASSOCIATE-RQ pdu) / RECORD = ap (λ (g : Associate). g .records) fields-are in
+      let l = request-records pdu is-request in
+      let e : RECORD * f .records ≡ length (sheetIn ASSOCIATE-RQ pdu) = omega arith in
+      rw (filled-with, e) (front-start sheet (sheetIn ASSOCIATE-RQ pdu))
+
+  -- "A bad proposal": what is read from a valid RQ never is
+  pub read-never-bad : proposalOk (recordsIn (f .records) sheet′) ≡ true
+  read-never-bad = ap proposalOk read-given-on ∙ request-sheet-good pdu is-request
+
+-- ---- the three calls, one after another
+bytes-take : (k : ℕ) (s : List ℕ) → Bytes s → Bytes (take k s)
+bytes-take k s b i = go (decLt i k)
+  where
+    go : Dec (i < k) → getD (take k s) i 0 < 256
+    go (yes h) = rw (getD-take k s i 0 h) (b i)
+    go (no h) = rw (List·getD-eq-default (take k s) 0 (omega (arith, length-take k s))) (omega arith)
+
+module _ (pdu site answer′ : List ℕ) (f : Associate) (c : Chosen) (h : Chain pdu site answer′ f c) where
+  abbrev proposal : List ℕ
+  proposal = recordsIn (f .records) (h .sheet′)
+
+  abbrev response : AcFields
+  response = responseOf pdu f c answer′
+
+  request-is : kindOf pdu ≡ ASSOCIATE-RQ
+  request-is = is-request pdu (h .sheet) f (h .sheet′) (h .read) (h .request)
+
+  proposal-good : proposalOk proposal ≡ true
+  proposal-good = read-never-bad pdu (h .sheet) f (h .sheet′) (h .read) (h .request)
+
+  not-refused : c .refusal ≡ NOT-REFUSED
+  not-refused =
+      written.refusal-is proposal site (h .answer) c answer′ (h .chose)
+      ∙ never-short proposal site (length (h .answer)) (bytes-take (RECORD * f .records) (h .sheet′) (h .bytes)) proposal-good (h .good) (h .room)
+
+  -- the answers that are given on: those that were chosen for what the RQ proposes
+  given-answers : answersIn (response .sheet) ≡ chosenFor (siteIn site) (proposed pdu)
+  given-answers =
+      ap answersIn (written.given-on proposal site (h .answer) c answer′ (h .chose) not-refused)
+      ∙ (written.sheet-answers proposal site proposal-good
+      ∙ ap (chosenFor (siteIn site)) (ap contextsIn (read-given-on pdu (h .sheet) f (h .sheet′) (h .read) (h .request)) ∙ request-sheet-back pdu request-is))
+
+  application-is : response .application ≡ applicationOf pdu
+  application-is = let e = fields-are pdu (h .sheet) f (h .sheet′) (h .read) (h .request) in rw e (application-stands pdu)
+
+  application-good : nameOk (applicationOf pdu) ≡ true
+  unfolding rqGood
+  application-good = left-of _ (proposalOk (sheetIn ASSOCIATE-RQ pdu)) (right-of (titleOk (callingOf pdu)) _ (right-of (titleOk (calledOf pdu)) _ (rq-again-good pdu request-is)))
+
+  echoed-64 : length (response .echoed) ≡ 64
+  echoed-64 = let n = request-long pdu request-is in length-take-le 64 (drop 10 pdu) (omega (arith, length-drop 10 pdu))
+
+  response-good : acGood response ≡ true
+  unfolding acGood
+  response-good =
+      both-of _ _ (eq-eqb (length (response .echoed)) 64 echoed-64)
+      (both-of _ _ (ap nameOk application-is ∙ application-good) (written.given-good proposal site (h .answer) c answer′ (h .chose) not-refused))
+
+  contexts-good : all contextOk (proposed pdu) ≡ true
+  unfolding contextsOk
+  contexts-good =
+      let e : contextsOk (proposed pdu) ≡ true = ap contextsOk (sym (request-sheet-back pdu request-is)) ∙ proposal-contexts (sheetIn ASSOCIATE-RQ pdu) (request-sheet-good pdu request-is) in
+      left-of _ _ (right-of (leb 1 (length (proposed pdu))) _ e)
+
+  -- the AC is no longer than the RQ
+  pub response-short : length (acForm response .pdu) ≤ length pdu
+  unfolding acForm acPdu rqForm rqPdu
+  response-short =
+      let n = request-long pdu request-is in
+      let a = title-16 10 (omega arith) in
+      let b = title-16 26 (omega arith) in
+      let d = length-append (calledOf pdu) (callingOf pdu ++ replicate 32 0) in
+      let e = length-append (callingOf pdu) (replicate 32 0) in
+      let x = associate-long (acPdu response) echoed-64 refl in
+      let y = associate-long (rqPdu (rqRead pdu)) (omega arith) refl in
+      let i = ap length application-is in
+      let j = ap (λ (l : List Answered). length (itemsBytes 0x21 (map answerBody l))) given-answers in
+      let k = ap (λ (l : List Context). length (itemsBytes 0x20 (map contextBody l))) (request-sheet-back pdu request-is) in
+      let m = answers-shorter (siteIn site) (proposed pdu) contexts-good in
+      let s = rq-again-short pdu request-is in
+      omega arith
+    where
+      title-16 : (at : ℕ) → at + 16 ≤ length pdu → length (take 16 (drop at pdu)) ≡ 16
+      title-16 at l = length-take-le 16 (drop at pdu) (omega (arith, length-drop at pdu))
+
+  response-sent : (room : ℕ) → length pdu ≤ room → formRefusal (acForm response) room ≡ NOT-REFUSED
+  unfolding acForm
+  response-sent room l =
+      let w = kind-whole pdu ASSOCIATE-RQ request-is (λ e. omega arith) in
+      let a = whole-length pdu w in
+      let b = whole-limit pdu w in
+      let s = response-short in
+      refusal-0 (acForm response) room response-good (omega arith) (omega arith)
+
+  pub answering : Answering pdu site answer′ f c
+  answering = record { chosen-all = not-refused; sent = response-sent; says = λ room l. sent-ac room response (response-sent room l) .answers ∙ given-answers }

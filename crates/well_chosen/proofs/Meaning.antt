@@ -1,0 +1,246 @@
+-- What is chosen is well chosen: no better-liked match exists, every name was proposed, and the answers may be sent.
+-- Assumes nothing.
+use Prim.Native.Nat.{ℕ, zero, suc, _+_, _*_, _/_, _≤_, _<_}
+use native.Mathlib.Omega.{arith}
+use native.Mathlib.Decide.{decLt}
+use mathlib.Core.Bool.{Bool, true, false, not, _&&_, _||_, cond}
+use mathlib.Core.List.{List, [], _∷_, _++_, map}
+use mathlib.Core.Path.{_≡_, refl, sym, ap, _∙_}
+use mathlib.Core.Logic.{_⊎_, inl, inr}
+use lib.ListN.{length, take, drop, getD, length-append, length-map}
+use lib.Dec.{leb, eqb}
+use borrow.Author.Tests.{leb-true, le-leb, eq-eqb}
+use Rattle.laws.specs.Lists.{all, any, sameBytes, distinct}
+use Rattle.laws.proofs.Booleans.{held, holds, left-of, right-of, both-of}
+use Rattle.laws.proofs.Same.{same-equal, same-self}
+use Rattle.names.specs.Name.{nameOk}
+use Rattle.octets.specs.Octets.{odd}
+use Rattle.sheets.specs.Contexts.{Context, Answered, contextId, answeredId, contextOk, transferNameOk, answeredOk, contextsOk, allAnsweredOk}
+use Rattle.choosing.specs.Choice.{Liked, ACCEPTED, ABSTRACT-NOT-SUPPORTED, TRANSFER-NOT-SUPPORTED, sameAbstract, offers, matches, resultFor, firstProposed, transferFor, chosen, chosenFor}
+use Rattle.well_chosen.specs.Meaning.{OneOf, Matches, likedAt, Best, NoCommon, NotThere, WellChosen}
+
+-- ---- the tests say what their words say
+one-of : (x : List ℕ) (xs : List (List ℕ)) → any (sameBytes x) xs ≡ true → OneOf x xs
+one-of x [] e = absurd (held false e)
+one-of x (y ∷ ys) e = go (sameBytes x y) refl e (one-of x ys)
+  where
+    go : (b : Bool) → sameBytes x y ≡ b → (b || any (sameBytes x) ys) ≡ true → (any (sameBytes x) ys ≡ true → OneOf x ys) → OneOf x (y ∷ ys)
+    go true q r f = record { place = 0; there = omega arith; same = sym (same-equal x y (held _ q)) }
+    go false q r f = let o = f r in let t = o .there in record { place = suc (o .place); there = omega arith; same = o .same }
+
+one-of-back : (x : List ℕ) (xs : List (List ℕ)) (k : ℕ) → k < length xs → getD xs k [] ≡ x → any (sameBytes x) xs ≡ true
+one-of-back x [] k h e = absurd (omega arith)
+one-of-back x (y ∷ ys) zero h e = ap (λ (z : List ℕ). sameBytes x z || any (sameBytes x) ys) e ∙ rw (holds (sameBytes x x) (same-self x))
+one-of-back x (y ∷ ys) (suc k) h e = rw (one-of-back x ys k (omega arith) e) (or-yes (sameBytes x y))
+  where
+    or-yes : (b : Bool) → (b || true) ≡ true
+    or-yes true = refl
+    or-yes false = refl
+
+pub offers-means : (c : Context) (x : List ℕ) → offers c x ≡ true → OneOf x (c .transfers)
+unfolding offers
+offers-means c x e = one-of x (c .transfers) e
+
+pub matches-means : (c : Context) (w : Liked) → matches c w ≡ true → Matches c w
+unfolding matches sameAbstract offers
+matches-means c w e =
+    record {
+      abstract-name = same-equal _ _ (held _ (left-of (sameBytes (w .abstr) (c .abstr)) (offers c (w .transfer)) e));
+      transfer-name = one-of (w .transfer) (c .transfers) (right-of (sameBytes (w .abstr) (c .abstr)) (offers c (w .transfer)) e);
+    }
+
+same-back : (c : Context) (w : Liked) → w .abstr ≡ c .abstr → sameAbstract c w ≡ true
+unfolding sameAbstract
+same-back c w e = ap (λ (z : List ℕ). sameBytes z (c .abstr)) e ∙ holds (sameBytes (c .abstr) (c .abstr)) (same-self (c .abstr))
+
+matches-back : (c : Context) (w : Liked) → Matches c w → matches c w ≡ true
+unfolding matches offers
+matches-back c w m = both-of _ _ (same-back c w (m .abstract-name)) (let o = m .transfer-name in one-of-back (w .transfer) (c .transfers) (o .place) (o .there) (o .same))
+
+-- ---- a record at a place that passes a test, or none
+module _ (p : Liked → Bool) where
+  none-at : (ws : List Liked) → any p ws ≡ false → (k : ℕ) → k < length ws → p (likedAt ws k) ≡ false
+  none-at [] e k h = absurd (omega arith)
+  none-at (w ∷ ws) e zero h = or-left (p w) (any p ws) e
+    where
+      or-left : (a b : Bool) → (a || b) ≡ false → a ≡ false
+      or-left true b q = absurd (held false (sym q))
+      or-left false b q = refl
+  none-at (w ∷ ws) e (suc k) h = none-at ws (or-right (p w) (any p ws) e) k (omega arith)
+    where
+      or-right : (a b : Bool) → (a || b) ≡ false → b ≡ false
+      or-right true b q = absurd (held false (sym q))
+      or-right false b q = q
+
+  some-at : (ws : List Liked) → any p ws ≡ true → (k : ℕ) × ((k < length ws) × (p (likedAt ws k) ≡ true))
+  some-at [] e = absurd (held false e)
+  some-at (w ∷ ws) e = go (p w) refl e (some-at ws)
+    where
+      go : (b : Bool) → p w ≡ b → (b || any p ws) ≡ true → (any p ws ≡ true → ((k : ℕ) × ((k < length ws) × (p (likedAt ws k) ≡ true)))) → (k : ℕ) × ((k < length (w ∷ ws)) × (p (likedAt (w ∷ ws) k) ≡ true))
+      go true q r f = (0, (omega arith, q))
+      go false q r f = let o = f r in let t = o .1 .0 in (suc (o .0), (omega arith, o .1 .1))
+
+  any-at : (ws : List Liked) (k : ℕ) → k < length ws → p (likedAt ws k) ≡ true → any p ws ≡ true
+  any-at ws k h e = go (any p ws) refl
+    where
+      go : (b : Bool) → any p ws ≡ b → b ≡ true
+      go true q = refl
+      go false q = absurd (held false (sym (none-at ws q k h) ∙ e))
+
+-- ---- no better-liked match exists
+best : (c : Context) (ws : List Liked) → any (matches c) ws ≡ true → Best ws c (transferFor c ws)
+unfolding transferFor
+best c [] e = absurd (held false e)
+best c (w ∷ ws) e = go (matches c w) refl e (best c ws)
+  where
+    go : (b : Bool) → matches c w ≡ b → (b || any (matches c) ws) ≡ true → (any (matches c) ws ≡ true → Best ws c (transferFor c ws)) → Best (w ∷ ws) c (cond b (w .transfer) (transferFor c ws))
+    go true q r f = record { place = 0; there = omega arith; matching = matches-means c w q; none-better = λ k h m. absurd (omega arith); name = refl }
+    go false q r f =
+        let o = f r in
+        let t = o .there in
+        record { place = suc (o .place); there = omega arith; matching = o .matching; none-better = lower (o .place) (o .none-better); name = o .name }
+      where
+        lower : (n : ℕ) → ((k : ℕ) → k < n → Matches c (likedAt ws k) → ⊥) → (k : ℕ) → k < suc n → Matches c (likedAt (w ∷ ws) k) → ⊥
+        lower n g zero h m = held false (sym q ∙ matches-back c w m)
+        lower n g (suc k) h m = g k (omega arith) m
+
+no-common : (c : Context) (ws : List Liked) → any (matches c) ws ≡ false → any (sameAbstract c) ws ≡ true → NoCommon ws c
+unfolding sameAbstract
+no-common c ws e q =
+    let o = some-at (sameAbstract c) ws q in
+    record {
+      none = λ k h m. held false (sym (none-at (matches c) ws e k h) ∙ matches-back c (likedAt ws k) m);
+      place = o .0;
+      there = o .1 .0;
+      abstract-name = same-equal _ _ (held _ (o .1 .1));
+    }
+
+not-there : (c : Context) (ws : List Liked) → any (sameAbstract c) ws ≡ false → NotThere ws c
+not-there c ws e k h m = held false (sym (none-at (sameAbstract c) ws e k h) ∙ same-back c (likedAt ws k) m)
+
+-- which result comes when
+module _ (c : Context) (ws : List Liked) where
+  by-result : (a b : Bool) → any (matches c) ws ≡ a → any (sameAbstract c) ws ≡ b → resultFor c ws ≡ cond a ACCEPTED (cond b TRANSFER-NOT-SUPPORTED ABSTRACT-NOT-SUPPORTED)
+  unfolding resultFor
+  by-result a b p q = rw (p, q)
+
+  accepted-so : resultFor c ws ≡ ACCEPTED → Best ws c (transferFor c ws)
+  accepted-so e = go (any (matches c) ws) (any (sameAbstract c) ws) refl refl
+    where
+      go : (a b : Bool) → any (matches c) ws ≡ a → any (sameAbstract c) ws ≡ b → Best ws c (transferFor c ws)
+      go true b p q = best c ws p
+      go false true p q = let z = by-result false true p q in absurd (omega arith)
+      go false false p q = let z = by-result false false p q in absurd (omega arith)
+
+  no-transfer-so : resultFor c ws ≡ TRANSFER-NOT-SUPPORTED → NoCommon ws c
+  no-transfer-so e = go (any (matches c) ws) (any (sameAbstract c) ws) refl refl
+    where
+      go : (a b : Bool) → any (matches c) ws ≡ a → any (sameAbstract c) ws ≡ b → NoCommon ws c
+      go true b p q = let z = by-result true b p q in absurd (omega arith)
+      go false true p q = no-common c ws p q
+      go false false p q = let z = by-result false false p q in absurd (omega arith)
+
+  no-abstract-so : resultFor c ws ≡ ABSTRACT-NOT-SUPPORTED → NotThere ws c
+  no-abstract-so e = go (any (matches c) ws) (any (sameAbstract c) ws) refl refl
+    where
+      go : (a b : Bool) → any (matches c) ws ≡ a → any (sameAbstract c) ws ≡ b → NotThere ws c
+      go true b p q = let z = by-result true b p q in absurd (omega arith)
+      go false true p q = let z = by-result false true p q in absurd (omega arith)
+      go false false p q = not-there c ws q
+
+  one-of-results : (resultFor c ws ≡ ACCEPTED) ⊎ ((resultFor c ws ≡ TRANSFER-NOT-SUPPORTED) ⊎ (resultFor c ws ≡ ABSTRACT-NOT-SUPPORTED))
+  one-of-results = go (any (matches c) ws) (any (sameAbstract c) ws) refl refl
+    where
+      go : (a b : Bool) → any (matches c) ws ≡ a → any (sameAbstract c) ws ≡ b → (resultFor c ws ≡ ACCEPTED) ⊎ ((resultFor c ws ≡ TRANSFER-NOT-SUPPORTED) ⊎ (resultFor c ws ≡ ABSTRACT-NOT-SUPPORTED))
+      go true b p q = inl (by-result true b p q)
+      go false true p q = inr (inl (by-result false true p q))
+      go false false p q = inr (inr (by-result false false p q))
+
+  best-only : (x y : List ℕ) → Best ws c x → Best ws c y → x ≡ y
+  best-only x y a b = go (decLt (a .place) (b .place)) (decLt (b .place) (a .place))
+    where
+      go : Dec (a .place < b .place) → Dec (b .place < a .place) → x ≡ y
+      go (yes h) d = absurd (b .none-better (a .place) h (a .matching))
+      go (no h) (yes l) = absurd (a .none-better (b .place) l (b .matching))
+      go (no h) (no l) =
+          let e : a .place ≡ b .place = omega arith in
+          sym (a .name) ∙ (ap (λ (k : ℕ). likedAt ws k .transfer) e ∙ b .name)
+
+pub well-chosen : (ws : List Liked) (c : Context) → WellChosen ws c (chosen ws c)
+unfolding chosen
+well-chosen ws c =
+    record {
+      one-of-three = one-of-results c ws;
+      accepted = accepted-so c ws;
+      no-transfer = no-transfer-so c ws;
+      no-abstract = no-abstract-so c ws;
+      not-both = λ x b n. n .none (b .place) (b .there) (b .matching);
+      not-either = λ x b n. n (b .place) (b .there) (b .matching .abstract-name);
+      not-neither = λ m n. n (m .place) (m .there) (m .abstract-name);
+      only-best = best-only c ws;
+    }
+
+-- ---- every chosen transfer name was proposed for that context
+transfer-offered : (c : Context) (ws : List Liked) → leb 1 (length (c .transfers)) ≡ true → offers c (transferFor c ws) ≡ true
+unfolding transferFor firstProposed offers
+transfer-offered c [] l = let h = leb-true 1 (length (c .transfers)) l in one-of-back (getD (c .transfers) 0 []) (c .transfers) 0 (omega arith) refl
+transfer-offered c (w ∷ ws) l = go (matches c w) refl (transfer-offered c ws l)
+  where
+    go : (b : Bool) → matches c w ≡ b → any (sameBytes (transferFor c ws)) (c .transfers) ≡ true → any (sameBytes (cond b (w .transfer) (transferFor c ws))) (c .transfers) ≡ true
+    go true q r = let o = matches-means c w q .transfer-name in one-of-back (w .transfer) (c .transfers) (o .place) (o .there) (o .same)
+    go false q r = r
+
+module _ (c : Context) (g : contextOk c ≡ true) where
+  context-parts : (odd (c .id) && (nameOk (c .abstr) && (leb 1 (length (c .transfers)) && all nameOk (c .transfers)))) ≡ true
+  unfolding contextOk
+  context-parts = g
+
+  names-parts : (leb 1 (length (c .transfers)) && all nameOk (c .transfers)) ≡ true
+  names-parts = right-of (nameOk (c .abstr)) _ (right-of (odd (c .id)) _ context-parts)
+
+  pub was-proposed : (ws : List Liked) → OneOf (chosen ws c .transfer) (c .transfers)
+  unfolding chosen
+  was-proposed ws = offers-means c (transferFor c ws) (transfer-offered c ws (left-of _ _ names-parts))
+
+-- ---- the answers may be sent
+all-at : (p : List ℕ → Bool) (xs : List (List ℕ)) (k : ℕ) → k < length xs → all p xs ≡ true → p (getD xs k []) ≡ true
+all-at p [] k h g = absurd (omega arith)
+all-at p (x ∷ xs) zero h g = left-of _ _ g
+all-at p (x ∷ xs) (suc k) h g = all-at p xs k (omega arith) (right-of (p x) _ g)
+
+result-most : (c : Context) (ws : List Liked) → leb (resultFor c ws) 4 ≡ true
+unfolding resultFor
+result-most c ws = go (any (matches c) ws) (any (sameAbstract c) ws)
+  where
+    go : (a b : Bool) → leb (cond a ACCEPTED (cond b TRANSFER-NOT-SUPPORTED ABSTRACT-NOT-SUPPORTED)) 4 ≡ true
+    go true b = refl
+    go false true = refl
+    go false false = refl
+
+answer-good : (ws : List Liked) (c : Context) → contextOk c ≡ true → answeredOk (chosen ws c) ≡ true
+unfolding answeredOk transferNameOk chosen
+answer-good ws c g =
+    let o = was-proposed c g ws in
+    let n : nameOk (transferFor c ws) ≡ true = ap nameOk (sym (o .same)) ∙ all-at nameOk (c .transfers) (o .place) (o .there) (right-of (leb 1 (length (c .transfers))) _ (names-parts c g)) in
+    both-of (odd (c .id)) _ (left-of (odd (c .id)) _ (context-parts c g)) (both-of _ _ (result-most c ws) n)
+
+answers-good : (ws : List Liked) (cs : List Context) → all contextOk cs ≡ true → all answeredOk (chosenFor ws cs) ≡ true
+unfolding chosenFor
+answers-good ws [] g = refl
+answers-good ws (c ∷ cs) g = both-of _ _ (answer-good ws c (left-of _ _ g)) (answers-good ws cs (right-of (contextOk c) _ g))
+
+-- the proposal's IDs in their order
+pub same-ids : (ws : List Liked) (cs : List Context) → map answeredId (chosenFor ws cs) ≡ map contextId cs
+unfolding chosenFor chosen
+same-ids ws [] = refl
+same-ids ws (c ∷ cs) = ap (λ (l : List ℕ). c .id ∷ l) (same-ids ws cs)
+
+as-many : (ws : List Liked) (cs : List Context) → length (chosenFor ws cs) ≡ length cs
+unfolding chosenFor
+as-many ws cs = length-map cs (chosen ws)
+
+pub all-good : (ws : List Liked) (cs : List Context) → contextsOk cs ≡ true → allAnsweredOk (chosenFor ws cs) ≡ true
+unfolding contextsOk allAnsweredOk
+all-good ws cs g =
+    let r : (all contextOk cs && distinct (map contextId cs)) ≡ true = right-of (leb 1 (length cs)) _ g in
+    both-of _ _ (ap (leb 1) (as-many ws cs) ∙ left-of _ _ g) (both-of _ _ (answers-good ws cs (left-of _ _ r)) (ap distinct (same-ids ws cs) ∙ right-of (all contextOk cs) _ r))
