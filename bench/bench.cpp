@@ -1,5 +1,5 @@
 // Feohanna measured in one process and on the same bytes: receiving against memcpy and a plain copy, the PDVs of a PDU against receiving it, an RQ read and written against the second program and
-// against DCMTK.
+// against DCMTK, its answers chosen against reading it.
 //     bench                     a line for each measurement: its group, what, against what, ns per call of both, their ratio
 //     bench WHAT WHO TIMES      runs one of them so often, for an instruction counter; a wrong WHAT lists them
 #include "feohanna.h"
@@ -152,20 +152,20 @@ static const char TITLES[33] = "STORE-EQUINE    CART 1          ";
 
 static const uint8_t *bytes(const char *text) { return (const uint8_t *)text; }
 
+static void add_record(Bytes &sheet, unsigned id, const std::string &abstract, const std::string &transfer)
+{
+    uint8_t record[FEO_RECORD_LEN];
+    must(feo_put_record(record, (uint8_t)id, 0, abstract.data(), abstract.size(), transfer.data(), transfer.size()) == 0, "a record is refused");
+    sheet.insert(sheet.end(), record, record + FEO_RECORD_LEN);
+}
+
 // A proposal of so many contexts with so many transfer syntaxes each.
 static Bytes sheet_of(unsigned contexts, unsigned transfers)
 {
     Bytes s;
     for (unsigned k = 0; k < contexts; k++)
-        for (unsigned t = 0; t < transfers; t++) {
-            uint8_t record[132] = { 0 };
-            record[0] = (uint8_t)(2 * k + 1);
-            record[2] = (uint8_t)std::strlen(ABSTRACT);
-            record[3] = (uint8_t)std::strlen(TRANSFERS[t]);
-            std::memcpy(record + 4, ABSTRACT, record[2]);
-            std::memcpy(record + 68, TRANSFERS[t], record[3]);
-            s.insert(s.end(), record, record + 132);
-        }
+        for (unsigned t = 0; t < transfers; t++)
+            add_record(s, 2 * k + 1, ABSTRACT, TRANSFERS[t]);
     return s;
 }
 
@@ -186,6 +186,38 @@ static size_t records(const Bytes &pdu, Bytes &sheet)
 {
     struct feo_associate f;
     return feo_read_request(pdu.data(), pdu.size(), sheet.data(), sheet.size(), &f) == 0 ? f.records : 0;
+}
+
+// ---- the answers to it
+
+static const size_t SITE = 200;
+
+// A name as long as this one, that differs from it in its last digits.
+static std::string near_to(std::string name, size_t k)
+{
+    const std::string digits = std::to_string(111 + k);
+    return name.replace(name.size() - 3, 3, digits);
+}
+
+// A site of SITE records. Either none but the last has the abstract name, or all have it with transfer names that nobody proposes, but the last; the last one matches.
+static Bytes site_of(bool same_abstract)
+{
+    Bytes s;
+    for (size_t k = 0; k + 1 < SITE; k++)
+        add_record(s, 0, same_abstract ? ABSTRACT : near_to(ABSTRACT, k), same_abstract ? near_to(TRANSFERS[2], k) : TRANSFERS[2]);
+    add_record(s, 0, ABSTRACT, TRANSFERS[2]);
+    return s;
+}
+
+// Chooses the answers: how many are accepted.
+static size_t choose(const Bytes &proposal, const Bytes &site, Bytes &answer)
+{
+    size_t n, accepted = 0;
+    if (feo_choose(proposal.data(), proposal.size(), site.data(), site.size(), answer.data(), answer.size(), &n) != 0)
+        return 0;
+    for (size_t k = 0; k < n; k++)
+        accepted += answer[k * FEO_RECORD_LEN + FEO_RECORD_RESULT_AT] == FEO_CONTEXT_ACCEPTED;
+    return accepted;
 }
 
 // ---- the measurements
@@ -238,6 +270,13 @@ static std::vector<Measured> all()
 #endif
             m.push_back(x);
         }
+    for (int same = 0; same < 2; same++) {
+        Bytes *proposal = new Bytes(sheet_of(128, 3)), *site = new Bytes(site_of(same != 0)), *answer = new Bytes(FEO_ANSWER_ROOM), *room = new Bytes(proposal->size());
+        Bytes *pdu = new Bytes(FEO_BUFFER);
+        pdu->resize(request(*proposal, pdu->data(), pdu->size()));
+        must(choose(*proposal, *site, *answer) == 128, "the answers are not chosen");
+        m.push_back({ "choose", same ? "200 records, one abstract name" : "200 records, 200 abstract names", { { "feohanna", [=] { return choose(*proposal, *site, *answer); } }, { "reading", [=] { return records(*pdu, *room); } } } });
+    }
     return m;
 }
 

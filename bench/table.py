@@ -17,9 +17,10 @@ GROUPS = {
     "go over": "All PDVs of a P-DATA-TF",
     "read": "Judging and reading an A-ASSOCIATE-RQ",
     "write": "Writing it",
+    "choose": "Choosing the answers to 128 contexts x 3",
 }
-COLOURS = {"memcpy": "#4c78a8", "plain": "#9ecae9", "receiving": "#b279a2", "second": "#72b7b2", "dcmtk": "#e45756"}
-NAMES = {"memcpy": "memcpy", "plain": f"a plain {MACHINE} copy", "receiving": "its receiving", "second": "the second program", "dcmtk": "DCMTK"}
+COLOURS = {"memcpy": "#4c78a8", "plain": "#9ecae9", "receiving": "#b279a2", "reading": "#f2cf5b", "second": "#72b7b2", "dcmtk": "#e45756"}
+NAMES = {"memcpy": "memcpy", "plain": f"a plain {MACHINE} copy", "receiving": "its receiving", "reading": "its reading", "second": "the second program", "dcmtk": "DCMTK"}
 BEGIN, END = f"<!-- measured on {MACHINE} -->\n", "<!-- end -->\n"
 PLOT = "bench.svg" if MACHINE == "x86-64" else f"bench-{MACHINE.lower()}.svg"
 

@@ -1,4 +1,4 @@
-// The calls that read or judge.
+// The calls that read, judge or choose.
 use crate::buffers::IN_SHEET;
 use crate::buffers::SHEET;
 use crate::buffers::digest;
@@ -113,4 +113,16 @@ pub(crate) fn title_known(line: &[u8], w: &Words) {
         Known::No => two(numbers::NOT_REFUSED, 0),
         Known::Refused => two(numbers::BAD_CONTENTS, 0),
     }
+}
+
+// C PROPOSAL SITE SHEETLEN
+pub(crate) fn choose(line: &[u8], w: &Words) {
+    let n = number(w, LENT) as usize;
+    let mut sheet = [IN_SHEET; SHEET];
+    let c = choosing::choose(
+        bytes(line, w, FIRST),
+        bytes(line, w, SECOND),
+        front(&mut sheet, n),
+    );
+    print(&[c.refusal as u64, c.records as u64, digest(&sheet, n)]);
 }
