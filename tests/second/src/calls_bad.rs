@@ -5,7 +5,7 @@ use crate::generate::{hex, Generator};
 impl Generator {
     pub fn bad_form(&mut self) {
         let nine = self.good_nine(6).text();
-        let line = match self.random.below(31) {
+        let line = match self.random.below(33) {
             0 => "".to_string(),
             1 => "x = -".to_string(),
             2 => "R = -".to_string(),
@@ -36,6 +36,8 @@ impl Generator {
             27 => "# a comment".to_string(),
             28 => "r\t=\t-".to_string(),
             29 => "P - 18446744073709551616".to_string(),
+            30 => "C - -".to_string(),
+            31 => "C - - 66001".to_string(),
             _ => self.too_long_string(),
         };
         self.say(line);
@@ -44,13 +46,18 @@ impl Generator {
         }
     }
 
-    /// A byte string of 17,001 bytes, seldom; else a number in hex.
+    /// A byte string of 17,001 bytes or a sheet of 66,001, seldom; else a number in hex.
     pub fn too_long_string(&mut self) -> String {
-        if self.random.chance(20) {
-            self.mark("form: string of 17,001 bytes");
-            format!("N {}", hex(&[0x31; 17_001]))
-        } else {
-            "D 04 a".to_string()
+        match self.random.below(10) {
+            0 | 1 => {
+                self.mark("form: string of 17,001 bytes");
+                format!("N {}", hex(&[0x31; 17_001]))
+            }
+            2 => {
+                self.mark("form: sheet of 66,001 bytes");
+                format!("C - {} 132", hex(&[0; 66_001]))
+            }
+            _ => "D 04 a".to_string(),
         }
     }
 }

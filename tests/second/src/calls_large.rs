@@ -187,7 +187,7 @@ fn rq_of_records(records: usize) -> Vec<u8> {
 }
 
 /// All odd IDs, the highest first, and with `over` the highest once more.
-fn all_ids(over: usize) -> Vec<u8> {
+pub fn all_ids(over: usize) -> Vec<u8> {
     let ids = (0..128u8).rev().map(|number| 2 * number + 1);
     ids.chain((0..over).map(|_| 255)).collect()
 }

@@ -8,9 +8,8 @@ use crate::twists::Expect::{Inside, Outside};
 use crate::twists::{inside, outside, seldom_used, Expect, Twist};
 
 /// A sheet in records, with bytes behind them.
-#[derive(Clone, Debug)]
+#[derive(Clone, Debug, Default)]
 pub struct Sheet {
-    pub proposal: bool,
     pub records: Vec<Vec<u8>>,
     pub tail: Vec<u8>,
 }
@@ -29,6 +28,23 @@ impl Sheet {
             let place = if random.chance(50) { last } else { random.below(last + 1) };
             edit(&mut self.records[place], random);
         }
+    }
+
+    /// Sets the abstract name of one record, and of all that share its ID and abstract name.
+    fn set_abstract(&mut self, random: &mut Random, name: &[u8]) {
+        let chosen = random.pick(&self.records);
+        for record in self.records.iter_mut().filter(|r| r[0] == chosen[0] && r[4..68] == chosen[4..68]) {
+            set_name(record, false, name);
+        }
+    }
+
+    fn add_context(&mut self, proposal: bool, random: &mut Random) {
+        let id = self.free_id(random);
+        self.records.push(good_record(proposal, id, random));
+    }
+
+    fn set_even_id(&mut self, random: &mut Random) {
+        self.with_record(random, |record, random| record[0] = random.pick(&[0, 2, 128, 254]));
     }
 
     fn last(&self) -> Vec<u8> {
@@ -73,20 +89,15 @@ fn good_record(proposal: bool, id: u8, random: &mut Random) -> Vec<u8> {
 
 /// A good sheet of few records.
 pub fn good_sheet(proposal: bool, random: &mut Random) -> Sheet {
-    let mut sheet = Sheet { proposal, records: Vec::new(), tail: Vec::new() };
+    let mut sheet = Sheet::default();
     for _ in 0..random.pick(&[1, 1, 1, 1, 2, 3]) {
-        let id = sheet.free_id(random);
-        sheet.records.push(good_record(proposal, id, random));
+        sheet.add_context(proposal, random);
     }
     sheet
 }
 
-/// Twists of proposals and answers alike.
+/// Twists of all sheets alike.
 pub static SHEET: &[Twist<Sheet>] = &[
-    inside("sheet: one more context", |s, r| {
-        let id = s.free_id(r);
-        s.records.push(good_record(s.proposal, id, r));
-    }),
     inside("sheet: transfer name of 64 bytes", |s, r| {
         s.with_record(r, |record, r| set_name(record, true, &name_of_length(64, r)));
     }),
@@ -103,9 +114,6 @@ pub static SHEET: &[Twist<Sheet>] = &[
     outside("sheet: bytes behind", |s, r| {
         let length = r.pick(&[1, 2, 66, 131]);
         s.tail = vec![0; length];
-    }),
-    outside("sheet: even ID", |s, r| {
-        s.with_record(r, |record, r| record[0] = r.pick(&[0, 2, 128, 254]));
     }),
     outside("sheet: transfer length 0", |s, r| {
         s.with_record(r, |record, _| set_name(record, true, b""));
@@ -137,8 +145,46 @@ pub static SHEET: &[Twist<Sheet>] = &[
     }),
 ];
 
+/// Twists of proposals and site sheets alike.
+pub static ABSTRACT: &[Twist<Sheet>] = &[
+    inside("sheet: abstract name of 64 bytes", |s, r| {
+        let name = name_of_length(64, r);
+        s.set_abstract(r, &name);
+    }),
+    inside("sheet: last record twice", |s, _| {
+        let record = s.last();
+        s.records.push(record);
+    }),
+    outside("sheet: result not 0", |s, r| {
+        s.with_record(r, |record, r| record[1] = r.pick(&[1, 3, 4, 5, 255]));
+    }),
+    outside("sheet: abstract length 0", |s, r| {
+        s.with_record(r, |record, _| set_name(record, false, b""));
+    }),
+    outside("sheet: abstract length above 64", |s, r| {
+        s.with_record(r, |record, r| {
+            set_name(record, false, &name_of_length(64, r));
+            record[2] = r.pick(&[65, 66, 128, 255]);
+        });
+    }),
+    outside("sheet: abstract length one less", |s, r| {
+        s.with_record(r, |record, _| record[2] -= 1);
+    }),
+    outside("sheet: unused abstract byte not zero", |s, r| {
+        s.with_record(r, |record, r| {
+            set_name(record, false, b"1.2");
+            let place = r.pick(&[3, 4, 40, 62, 63]);
+            record[4 + place] = r.pick(&[1, 0x20, 0x31, 0xff]);
+        });
+    }),
+    outside("sheet: bad abstract name", |s, r| {
+        s.with_record(r, |record, r| set_name(record, false, &short_bad_name(r)));
+    }),
+];
+
 /// Twists of a proposal.
 pub static PROPOSAL: &[Twist<Sheet>] = &[
+    inside("proposal: one more context", |s, r| s.add_context(true, r)),
     inside("proposal: a run of several transfers", |s, r| {
         for _ in 0..r.between(1, 3) {
             let mut record = s.last();
@@ -146,43 +192,12 @@ pub static PROPOSAL: &[Twist<Sheet>] = &[
             s.records.push(record);
         }
     }),
-    inside("proposal: equal transfer names", |s, _| {
-        let record = s.last();
-        s.records.push(record);
-    }),
     inside("proposal: equal abstract names, other ID", |s, r| {
         let mut record = s.last();
         record[0] = s.free_id(r);
         s.records.push(record);
     }),
-    inside("proposal: abstract name of 64 bytes", |s, r| {
-        s.with_record(r, |record, r| set_name(record, false, &name_of_length(64, r)));
-    }),
-    outside("proposal: result not 0", |s, r| {
-        s.with_record(r, |record, r| record[1] = r.pick(&[1, 4, 5, 255]));
-    }),
-    outside("proposal: abstract length 0", |s, r| {
-        s.with_record(r, |record, _| set_name(record, false, b""));
-    }),
-    outside("proposal: abstract length above 64", |s, r| {
-        s.with_record(r, |record, r| {
-            set_name(record, false, &name_of_length(64, r));
-            record[2] = r.pick(&[65, 66, 128, 255]);
-        });
-    }),
-    outside("proposal: abstract length one less", |s, r| {
-        s.with_record(r, |record, _| record[2] -= 1);
-    }),
-    outside("proposal: unused abstract byte not zero", |s, r| {
-        s.with_record(r, |record, r| {
-            set_name(record, false, b"1.2");
-            let place = r.pick(&[3, 4, 40, 62, 63]);
-            record[4 + place] = r.pick(&[1, 0x20, 0x31, 0xff]);
-        });
-    }),
-    outside("proposal: bad abstract name", |s, r| {
-        s.with_record(r, |record, r| set_name(record, false, &short_bad_name(r)));
-    }),
+    outside("proposal: even ID", |s, r| s.set_even_id(r)),
     outside("proposal: equal ID, other abstract name", |s, _| {
         let mut record = s.last();
         set_name(&mut record, false, b"7.7.7.7");
@@ -205,11 +220,32 @@ pub static PROPOSAL: &[Twist<Sheet>] = &[
     }),
 ];
 
+/// Twists of a site sheet.
+pub static SITE: &[Twist<Sheet>] = &[
+    inside("site: first record again last", |s, _| {
+        let record = s.records[0].clone();
+        s.records.push(record);
+    }),
+    outside("site: ID of a context", |s, r| {
+        s.with_record(r, |record, r| record[0] = r.pick(&[1, 1, 3, 129, 255]));
+    }),
+    outside("site: even ID, not 0", |s, r| {
+        s.with_record(r, |record, r| record[0] = r.pick(&[2, 128, 254]));
+    }),
+    outside("site: IDs as in a proposal", |s, _| {
+        for (place, record) in s.records.iter_mut().enumerate() {
+            record[0] = 2 * (place % 128) as u8 + 1;
+        }
+    }),
+];
+
 /// Twists of an answer.
 pub static ANSWER: &[Twist<Sheet>] = &[
+    inside("answer: one more context", |s, r| s.add_context(false, r)),
     inside("answer: result 0 to 4", |s, r| {
         s.with_record(r, |record, r| record[1] = r.below(5) as u8);
     }),
+    outside("answer: even ID", |s, r| s.set_even_id(r)),
     outside("answer: result above 4", |s, r| {
         s.with_record(r, |record, r| record[1] = r.pick(&[5, 6, 255]));
     }),
@@ -235,23 +271,58 @@ pub static ANSWER: &[Twist<Sheet>] = &[
     }),
 ];
 
-fn twist_sheet(sheet: &mut Sheet, want: Expect, random: &mut Random, marks: &mut Marks) {
-    let own = if sheet.proposal { PROPOSAL } else { ANSWER };
-    let fitting: Vec<&Twist<Sheet>> = SHEET.iter().chain(own.iter()).filter(|t| t.expect == want).collect();
-    if let Some(chosen) = seldom_used(&fitting, "twist", random, marks) {
-        (chosen.edit)(sheet, random);
+/// The twists of a kind of sheet, and the word that they are counted under.
+pub struct Twists {
+    word: &'static str,
+    list: Vec<&'static Twist<Sheet>>,
+}
+
+impl Twists {
+    fn of_proposal() -> Twists {
+        Twists { word: "twist", list: SHEET.iter().chain(ABSTRACT).chain(PROPOSAL).collect() }
+    }
+
+    fn of_answer() -> Twists {
+        Twists { word: "twist", list: SHEET.iter().chain(ANSWER).collect() }
+    }
+
+    /// Of a proposal that C answers.
+    pub fn of_asked() -> Twists {
+        Twists { word: "proposal of C", ..Twists::of_proposal() }
+    }
+
+    /// Of the site's sheet that C chooses by.
+    pub fn of_site() -> Twists {
+        Twists { word: "site of C", list: SHEET.iter().chain(ABSTRACT).chain(SITE).collect() }
+    }
+
+    fn change(&self, sheet: &mut Sheet, want: Expect, random: &mut Random, marks: &mut Marks) {
+        let fitting: Vec<&Twist<Sheet>> = self.list.iter().copied().filter(|t| t.expect == want).collect();
+        if let Some(chosen) = seldom_used(&fitting, self.word, random, marks) {
+            (chosen.edit)(sheet, random);
+        }
+    }
+
+    /// Changes a good sheet, within the rules or, unless `good`, beyond them.
+    pub fn bring_near(&self, sheet: &mut Sheet, good: bool, random: &mut Random, marks: &mut Marks) {
+        if random.chance(if good { 30 } else { 50 }) {
+            self.change(sheet, Inside, random, marks);
+        }
+        if !good {
+            self.change(sheet, Outside, random, marks);
+        }
+    }
+
+    fn names(&self) -> Vec<String> {
+        self.list.iter().map(|twist| format!("{}: {}", self.word, twist.name)).collect()
     }
 }
 
 /// A sheet near the rules; good ones when `good`.
 pub fn some_sheet(proposal: bool, good: bool, random: &mut Random, marks: &mut Marks) -> Vec<u8> {
     let mut sheet = good_sheet(proposal, random);
-    if random.chance(if good { 30 } else { 50 }) {
-        twist_sheet(&mut sheet, Inside, random, marks);
-    }
-    if !good {
-        twist_sheet(&mut sheet, Outside, random, marks);
-    }
+    let twists = if proposal { Twists::of_proposal() } else { Twists::of_answer() };
+    twists.bring_near(&mut sheet, good, random, marks);
     sheet.bytes()
 }
 
@@ -350,7 +421,8 @@ pub fn bad_ac_contents(random: &mut Random, marks: &mut Marks) -> AcContents {
     contents
 }
 
-/// The names of all sheet twists, for coverage.
-pub fn twist_names() -> Vec<&'static str> {
-    [SHEET, PROPOSAL, ANSWER].iter().flat_map(|list| list.iter().map(|t| t.name)).collect()
+/// The marks of all sheet twists, for coverage.
+pub fn twist_marks() -> Vec<String> {
+    let all = [Twists::of_proposal(), Twists::of_answer(), Twists::of_asked(), Twists::of_site()];
+    all.iter().flat_map(Twists::names).collect()
 }

@@ -17,6 +17,7 @@ struct Counts {
     states: BTreeMap<u8, u64>,
     kinds: BTreeMap<u8, u64>,
     acceptable: u64,
+    results: BTreeMap<Vec<usize>, u64>,
     over: u64,
 }
 
@@ -55,6 +56,10 @@ fn note(counts: &mut Counts, line: &str, answer: &str, last: &crate::replay::Las
         *counts.kinds.entry(last.kind).or_insert(0) += 1;
         counts.acceptable += answer.starts_with("1 1") as u64;
     }
+    if call == "C" && last.refusal == 0 {
+        let results = (0..5).filter(|result| last.results[*result]).collect();
+        *counts.results.entry(results).or_insert(0) += 1;
+    }
     counts.over += (line.len() > 30_000) as u64;
 }
 
@@ -64,7 +69,7 @@ fn refusals(counts: &Counts) -> String {
         text += &format!("{:>8}", number);
     }
     text += "\n";
-    for call in "r e c a j d K Q A J B D P T N V E 1 2 3 4 5 6 7".split(' ') {
+    for call in "r e c a j d K Q A J B D P C T N V E 1 2 3 4 5 6 7".split(' ') {
         text += &format!("{:<4}", call);
         for number in 0..8u8 {
             text += &format!("{:>8}", counts.refusals.get(&(call.to_string(), number)).unwrap_or(&0));
@@ -95,15 +100,15 @@ fn smaller(counts: &Counts) -> String {
     let mut text = format!("actions 1 to 28 met: {}\n", counts.actions.len());
     text += &format!("states before machine calls: {:?}\n", counts.states);
     text += &format!("kinds by K: {:?}, acceptable {}\n", counts.kinds, counts.acceptable);
+    text += &format!("results that stand together in an answer of C: {:?}\n", counts.results);
     text += &format!("lines above 30,000 bytes: {}\n", counts.over);
     text
 }
 
 fn branches(used: &BTreeMap<String, u64>) -> String {
     let mut all: Vec<String> = BRANCHES.iter().map(|branch| format!("branch: {}", branch.name)).collect();
-    all.extend(
-        twists::twist_names().iter().chain(contents::twist_names().iter()).map(|name| format!("twist: {}", name)),
-    );
+    all.extend(twists::twist_names().iter().map(|name| format!("twist: {}", name)));
+    all.extend(contents::twist_marks());
     let missing: Vec<&String> = all.iter().filter(|name| !used.contains_key(*name)).collect();
     let mut text = "branches and twists used\n".to_string();
     for (name, count) in used {

@@ -81,6 +81,7 @@ pub static BRANCHES: &[Branch] = &[
     Branch { name: "B", weight: 45, run: Generator::call_b },
     Branch { name: "D", weight: 105, run: Generator::call_d },
     Branch { name: "P", weight: 105, run: Generator::call_p },
+    Branch { name: "C", weight: 220, run: Generator::call_c },
     Branch { name: "T", weight: 50, run: Generator::call_t },
     Branch { name: "N", weight: 45, run: Generator::call_n },
     Branch { name: "V", weight: 30, run: Generator::call_v },
@@ -91,6 +92,7 @@ pub static BRANCHES: &[Branch] = &[
     Branch { name: "write P-DATA-TF", weight: 65, run: Generator::write_data },
     Branch { name: "write RELEASE", weight: 15, run: Generator::write_release },
     Branch { name: "write ABORT", weight: 40, run: Generator::write_abort },
+    Branch { name: "C with long sheets", weight: 5, run: Generator::call_c_long },
     Branch { name: "many records", weight: 4, run: Generator::many_records },
     Branch { name: "limit of 16,384 in few words", weight: 36, run: Generator::limit_in_few_words },
     Branch { name: "limit of 16,384 in full", weight: 20, run: Generator::limit_in_full },
@@ -139,6 +141,7 @@ pub struct Generator {
     pub rejects: Turns,
     pub aborts: Turns,
     pub items: Turns,
+    pub long_choices: Turns,
     pub calls: VecDeque<Call>,
 }
 
@@ -157,6 +160,7 @@ impl Generator {
         let aborts = Turns::new(pairs(&[0, 1, 2, 2, 3], &[0, 1, 2, 3, 4, 5, 6, 7, 255]), &mut random);
         let edges: Vec<u8> = (0..=15).collect();
         let items = Turns::new(pairs(&edges, &[0, 1]), &mut random);
+        let long_choices = Turns::new(pairs(&[0, 1, 2], &[0, 1]), &mut random);
         let mut generator = Generator {
             random,
             marks: Marks::default(),
@@ -169,6 +173,7 @@ impl Generator {
             rejects,
             aborts,
             items,
+            long_choices,
             calls: VecDeque::new(),
         };
         generator.first_calls();

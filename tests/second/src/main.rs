@@ -1,9 +1,11 @@
-//! The second program: document 01 by value, for comparison with the proved one.
+//! The second program: document 01 and request E1 by value, for comparison with the proved one.
 
 mod calls_bad;
+mod calls_choose;
 mod calls_large;
 mod calls_machine;
 mod calls_value;
+mod choose;
 mod contents;
 mod coverage;
 mod fields;
@@ -20,6 +22,8 @@ mod replay;
 mod script;
 #[cfg(test)]
 mod tests;
+#[cfg(test)]
+mod tests_choose;
 mod twists;
 mod valid;
 mod write;
@@ -28,7 +32,7 @@ use std::fs::File;
 use std::io::{self, BufRead, BufWriter, Read, Write};
 use std::process::exit;
 
-const HELP: &str = "second: document 01 written a second time, by value
+const HELP: &str = "second: document 01 and request E1 written a second time, by value
 
 second answer                                  answers the call lines of standard input
 second generate SEED COUNT                     prints COUNT call lines

@@ -1,6 +1,7 @@
 //! One call line in, one answer line out; a line of bad form is answered with `?`.
 
-use crate::fields::{kind, pdv_at, read_abort, read_ac, read_pdv, read_rj, read_rq, Fields};
+use crate::choose::choose;
+use crate::fields::{kind, pdv_at, read_abort, read_ac, read_pdv, read_rj, read_rq, Fields, RECORD};
 use crate::generate::hex;
 use crate::machine::{local_event, receive, Answer, Lent, Record, Request};
 use crate::names::{name_is_valid, title_check, title_is_valid, titles_equal};
@@ -18,6 +19,8 @@ pub struct Last {
     pub state_before: u8,
     pub answer: Answer,
     pub kind: u8,
+    /// Which results, 0 to 4, an answer sheet of C holds.
+    pub results: [bool; 5],
 }
 
 /// Keeps the memory lent from one machine call to the next.
@@ -132,6 +135,7 @@ impl Replay {
             "j" => self.reject(&mut words),
             "d" => self.data(&mut words),
             "K" | "Q" | "A" | "J" | "B" | "D" | "P" => self.reading(&mut words),
+            "C" => self.choosing(&mut words),
             "T" | "N" | "V" | "E" => self.names(&mut words),
             "1" | "2" | "3" | "4" | "5" | "6" | "7" => self.writing(&mut words),
             _ => None,
@@ -162,7 +166,7 @@ impl Replay {
     /// Keeps what a machine call left, and writes its answer.
     fn machine_answer(&mut self, before: &Lent, done: (Answer, Lent)) -> Option<String> {
         let (answer, lent) = done;
-        self.last = Last { refusal: answer.refusal, state_before: before.record.state, answer, kind: 0 };
+        self.last = Last { refusal: answer.refusal, state_before: before.record.state, answer, ..Last::default() };
         self.lent = lent;
         let r = &self.lent.record;
         Some(format!(
@@ -306,6 +310,24 @@ impl Replay {
                 format!("{} {} {}", found.kind, found.acceptable as u8, found.maximum)
             }
         }
+    }
+
+    fn choosing(&mut self, words: &mut Words) -> Option<String> {
+        let (proposal, site) = (words.sheet()?, words.sheet()?);
+        let lent = words.buffer(SHEET_LIMIT, 0xc3)?;
+        words.end()?;
+        Some(match choose(&proposal, &site, &lent) {
+            Ok((records, sheet)) => {
+                for record in sheet.chunks(RECORD).take(records) {
+                    self.last.results[record[1] as usize] = true;
+                }
+                format!("0 {} {}", records, digest(&sheet))
+            }
+            Err(refusal) => {
+                self.last.refusal = refusal;
+                format!("{} 0 {}", refusal, digest(&lent))
+            }
+        })
     }
 
     fn refused(&mut self, refusal: u8, zeros: &str) -> String {

@@ -2,7 +2,9 @@
 
 use std::collections::BTreeSet;
 
-use crate::contents::{good_sheet, Sheet, ANSWER, PROPOSAL, SHEET};
+use crate::calls_choose::good_choice;
+use crate::choose::choose;
+use crate::contents::{good_sheet, Sheet, ABSTRACT, ANSWER, PROPOSAL, SHEET, SITE};
 use crate::fields::{kind, pdv_at, read_ac, read_pdv, read_rj, read_rq, sheet_record};
 use crate::generate::{filled_cells, hex, Generator};
 use crate::items::four_bytes;
@@ -694,8 +696,14 @@ fn twists_of_pdus() {
 fn twists_of_sheets() {
     let proposal = |s: &Sheet| write::rq(EQUINE, EXOTIC, b"1.2", &s.bytes()).is_ok();
     let answer = |s: &Sheet| write::ac(&[0; 64], b"1.2", &s.bytes()).is_ok();
-    check_twists(&[SHEET, PROPOSAL], &mut |r| good_sheet(true, r), &proposal);
+    check_twists(&[SHEET, ABSTRACT, PROPOSAL], &mut |r| good_sheet(true, r), &proposal);
     check_twists(&[SHEET, ANSWER], &mut |r| good_sheet(false, r), &answer);
+    let one = sheet_record(1, 0, b"1.2", b"1.2");
+    let liked = sheet_record(0, 0, b"1.2", b"1.2");
+    let asked = |s: &Sheet| choose(&s.bytes(), &liked, &[0; 20_000]).is_ok();
+    let site = |s: &Sheet| choose(&one, &s.bytes(), &[0; 132]).is_ok();
+    check_twists(&[SHEET, ABSTRACT, PROPOSAL], &mut |r| good_choice(r, &mut Marks::default()).0, &asked);
+    check_twists(&[SHEET, ABSTRACT, SITE], &mut |r| good_choice(r, &mut Marks::default()).1, &site);
 }
 
 #[test]

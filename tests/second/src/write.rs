@@ -23,12 +23,12 @@ fn item(kind: u8, body: &[u8]) -> Vec<u8> {
     bytes
 }
 
-/// One record of a sheet to be sent.
-struct Record<'a> {
-    id: u8,
-    result: u8,
-    abstract_name: &'a [u8],
-    transfer: &'a [u8],
+/// One record of a given sheet.
+pub struct Record<'a> {
+    pub id: u8,
+    pub result: u8,
+    pub abstract_name: &'a [u8],
+    pub transfer: &'a [u8],
 }
 
 /// The names of a 64-byte field: the used bytes, when the unused ones are zero.
@@ -43,14 +43,14 @@ fn name_field(field: &[u8], length: u8) -> Result<&[u8], u8> {
 fn sheet_record(bytes: &[u8]) -> Result<Record<'_>, u8> {
     let abstract_name = name_field(&bytes[4..68], bytes[2])?;
     let transfer = name_field(&bytes[68..132], bytes[3])?;
-    if !is_odd(bytes[0]) || !name_is_valid(transfer) {
+    if !name_is_valid(transfer) {
         return Err(4);
     }
     Ok(Record { id: bytes[0], result: bytes[1], abstract_name, transfer })
 }
 
-/// At least one record, no part record, each good by itself.
-fn sheet_records(sheet: &[u8]) -> Result<Vec<Record<'_>>, u8> {
+/// At least one record, no part record, each with a transfer name and zeros behind its names.
+pub fn sheet_records(sheet: &[u8]) -> Result<Vec<Record<'_>>, u8> {
     if sheet.is_empty() || !sheet.chunks_exact(RECORD).remainder().is_empty() {
         return Err(4);
     }
@@ -58,10 +58,10 @@ fn sheet_records(sheet: &[u8]) -> Result<Vec<Record<'_>>, u8> {
 }
 
 /// The runs of a proposal: records with equal ID and abstract name side by side.
-fn runs<'a>(records: Vec<Record<'a>>) -> Result<Vec<Vec<Record<'a>>>, u8> {
+pub fn runs<'a>(records: Vec<Record<'a>>) -> Result<Vec<Vec<Record<'a>>>, u8> {
     let mut runs: Vec<Vec<Record>> = Vec::new();
     for record in records {
-        if record.result != 0 || !name_is_valid(record.abstract_name) {
+        if !is_odd(record.id) || record.result != 0 || !name_is_valid(record.abstract_name) {
             return Err(4);
         }
         let goes_on =
@@ -95,7 +95,8 @@ fn answer(sheet: &[u8]) -> Result<Vec<u8>, u8> {
     let mut items = Vec::new();
     let mut ids = Vec::new();
     for record in sheet_records(sheet)? {
-        if record.result > 4 || !record.abstract_name.is_empty() || ids.contains(&record.id) {
+        let good = is_odd(record.id) && record.result <= 4 && record.abstract_name.is_empty();
+        if !good || ids.contains(&record.id) {
             return Err(4);
         }
         ids.push(record.id);
