@@ -19,7 +19,7 @@
 #include <string.h>
 
 /* The version. While it begins with 0 its second number grows with every change of a call or a name. */
-#define FEO_VERSION "0.4.0"
+#define FEO_VERSION "0.5.0"
 
 /* Room for any PDU that is received or sent. feo_receive asks it of its gather buffer. */
 #define FEO_BUFFER 16390
@@ -45,7 +45,7 @@
 #define FEO_RECORD_TRANSFER_AT 68
 #define FEO_NAME_MAX 64
 
-/* Room for the sheet of any A-ASSOCIATE-RQ (a valid one has at most 3,257 transfer syntaxes) and of any -AC (128 contexts). */
+/* Room for the sheet of any A-ASSOCIATE-RQ (a valid one has at most 3,257 transfer syntaxes) and for any answer (128 contexts). */
 #define FEO_PROPOSAL_ROOM (FEO_RECORD_LEN * 3257)
 #define FEO_ANSWER_ROOM (FEO_RECORD_LEN * 128)
 
@@ -112,7 +112,7 @@ enum feo_refusal_number {
     FEO_BLANK_CELL = 1,     /* a local event at a blank cell of Table 9-10 */
     FEO_SHORT_OUTPUT = 2,   /* out, or the sheet that is filled, is too short; feo_receive always wants 10 bytes of out */
     FEO_SHORT_GATHER = 3,   /* gather is shorter than FEO_BUFFER when receiving, or than the gathered count at a local event */
-    FEO_BAD_CONTENTS = 4,   /* bad contents of a local request, title list, sought title, PDV number or place, or sheet */
+    FEO_BAD_CONTENTS = 4,   /* bad contents of a local request, title list, sought title, PDV number or place, or any sheet */
     FEO_LONG_PDU = 5,       /* PDU-length to be sent above 16,384, or a P-DATA-TF's above a non-zero peer maximum */
     FEO_BROKEN_RECORD = 6,  /* no call leaves such an association, or such a PDU begun in gather: one was written to or exchanged */
     FEO_NO_SUCH_PDU = 7     /* the bytes are no whole valid PDU of the kind that is read */
@@ -263,6 +263,9 @@ uint8_t feo_raw_read_data(
 uint8_t feo_raw_pdv_at(
     const uint8_t *pdu, size_t pdu_len, size_t at, uint8_t *id, uint8_t *control, size_t *start, size_t *length);
 uint8_t feo_raw_title_known(const uint8_t *own, size_t own_len, const uint8_t *sought, size_t sought_len, uint8_t *known);
+uint8_t feo_raw_choose(
+    const uint8_t *proposal, size_t proposal_len, const uint8_t *site, size_t site_len, uint8_t *answer, size_t answer_len,
+    size_t *records);
 #ifdef __cplusplus
 }
 #endif
@@ -432,6 +435,25 @@ static inline uint8_t feo_title_known(const uint8_t *own, size_t own_len, const 
     return feo_raw_title_known(feo_part(own, own_len), own_len, feo_part(sought, sought_len), sought_len, known);
 }
 
+/*
+ * Chooses the answer to a proposal and fills it from its start, a record for each context, in the proposal's order: result 0 with
+ * the transfer name of the first site record that has the context's abstract name and one of its transfer names; where there is
+ * none, its first proposed transfer name, with result 3 where its abstract name is on no site record, else 4. FEO_ANSWER_ROOM is
+ * always enough.
+ *
+ * site: one or more records, best liked first, ID and result 0, names as in a proposal. What feo_read_request filled is never
+ * refused: a 4 behind it is the site's. feo_choose, and then feo_accept, is given FEO_RECORD_LEN times the records of the call
+ * before, not its buffer's length.
+ */
+static inline uint8_t feo_choose(
+    const uint8_t *proposal, size_t proposal_len, const uint8_t *site, size_t site_len, uint8_t *answer, size_t answer_len,
+    size_t *records)
+{
+    return feo_raw_choose(
+        feo_part(proposal, proposal_len), proposal_len, feo_part(site, site_len), site_len,
+        feo_room(answer, answer_len), answer_len, records);
+}
+
 /* An action's name in Tables 9-6 to 9-9: "" for 0, "?" for a number that is none. */
 static inline const char *feo_action_name(uint8_t action)
 {
@@ -481,8 +503,9 @@ static inline const char *feo_event_name(uint8_t event)
 }
 
 /*
- * Writes one record of a sheet, FEO_RECORD_LEN bytes, for feo_confirm (result 0) or feo_accept (an empty abstract name). 4, and
- * nothing is written, where a name is longer than FEO_NAME_MAX; all else about a record those two calls test.
+ * Writes one record of a sheet, FEO_RECORD_LEN bytes: of a proposal (result 0) for feo_confirm, of a site's sheet (ID and result 0)
+ * for feo_choose, of an answer (an empty abstract name) for feo_accept. 4, and nothing is written, where a name is longer than
+ * FEO_NAME_MAX; all else about a record those calls test.
  */
 static inline uint8_t feo_put_record(
     uint8_t *record, uint8_t id, uint8_t result, const void *abstract, size_t abstract_len, const void *transfer, size_t transfer_len)
