@@ -74,8 +74,9 @@ static inline void ten(struct bytes *pdu, unsigned type, unsigned a, unsigned b,
 #define ECHO_CLASS "1.2.840.10008.1.1"
 #define IMPLICIT "1.2.840.10008.1.2"
 
-/* A name of 64 bytes. */
+/* Names of 64 bytes. */
 #define SIXTY_FOUR "1.234567890123456789012345678901234567890123456789012345678901.9"
+#define OTHER_SIXTY_FOUR "1.234567890123456789012345678901234567890123456789012345678901.8"
 
 /* Version, titles and reserved bytes of an RQ or AC. */
 static inline void add_fixed(struct bytes *b, unsigned version)
@@ -157,6 +158,31 @@ static inline void add_record(struct bytes *b, unsigned id, unsigned result, con
     memcpy(b->at + b->n + 4, abstract, strlen(abstract));
     memcpy(b->at + b->n + 68, transfer, strlen(transfer));
     b->n += 132;
+}
+
+/* The RQ (type 1) with the contexts of this proposal, or the AC (type 2) with those of this answer. */
+static inline void of_sheet(struct bytes *pdu, unsigned type, const struct bytes *sheet)
+{
+    struct bytes b, context;
+    size_t i;
+    b.n = context.n = 0;
+    add_fixed(&b, 1);
+    add_name(&b, 0x10, APPLICATION);
+    for (i = 0; i < sheet->n; i += 132) {
+        const uint8_t *record = sheet->at + i;
+        if (context.n == 0) {
+            add_four(&context, (size_t)record[0] << 24 | (size_t)record[1] << 8);
+            if (type == 1)
+                add_item(&context, 0x30, record + 4, record[2]);
+        }
+        add_item(&context, 0x40, record + 68, record[3]);
+        if (i + 132 == sheet->n || record[132] != record[0]) {
+            add_item(&b, type == 1 ? 0x20 : 0x21, context.at, context.n);
+            context.n = 0;
+        }
+    }
+    add_user(&b, 16384);
+    whole(pdu, type, &b);
 }
 
 #endif

@@ -1181,6 +1181,309 @@ static void records(void)
     good_contents();
 }
 
+/*
+ * A sheet by letters, capitals for abstract names, small ones for transfer names. A proposal has ID, abstract name and transfer
+ * names of each context, "5:Aab 3:Bc"; a site's sheet both names, "Aa Ab"; an answer ID, result and transfer name, "5:0a 3:4c".
+ */
+static void lettered(struct bytes *sheet, const char *p)
+{
+    /* B begins C, a begins b, c and d, d begins c; A and F differ in their first byte, D and E, e and f in their 64th */
+    static const char *const abstracts[] = {
+        ECHO_CLASS, "1.2.840.10008.5.1.4.1.1.1", "1.2.840.10008.5.1.4.1.1.1.1", SIXTY_FOUR, OTHER_SIXTY_FOUR, "2.2.840.10008.1.1"
+    };
+    static const char *const transfers[] = {
+        IMPLICIT, "1.2.840.10008.1.2.1", "1.2.840.10008.1.2.4.50", "1.2.840.10008.1.2.4.5", SIXTY_FOUR, OTHER_SIXTY_FOUR
+    };
+    for (sheet->n = 0; *p != 0; p += *p == ' ') {
+        char *end;
+        unsigned id = (unsigned)strtoul(p, &end, 10), answered = 0;
+        const char *abstract = "";
+        p = end + (*end == ':');
+        if (*p >= 'A')
+            abstract = abstracts[*p++ - 'A'];
+        else
+            answered = (unsigned)(*p++ - '0');
+        for (; *p >= 'a'; p++)
+            add_record(sheet, id, answered, abstract, transfers[*p - 'a']);
+    }
+}
+
+static struct bytes site;
+static const struct bytes nothing = { 0, { 0 } };
+
+/* What feo_choose hands out, among guard bytes. */
+struct choice {
+    uint8_t guard0[64];
+    uint8_t answer[FEO_ANSWER_ROOM];
+    uint8_t guard1[64];
+    size_t records;
+    uint8_t guard2[64];
+};
+
+/* This answer of the site to the proposal, in so much room; where it is refused, nothing. */
+static void chosen(int line, size_t room, unsigned refusal, const struct bytes *answer)
+{
+    static struct choice got, choice;
+    static struct bytes sheets[2];
+    memset(&got, 0xEE, sizeof got);
+    memset(&choice, 0xEE, sizeof choice);
+    memcpy(choice.answer, answer->at, answer->n);
+    choice.records = answer->n / FEO_RECORD_LEN;
+    memcpy(sheets[0].at, proposal.at, proposal.n);
+    memcpy(sheets[1].at, site.at, site.n);
+    check(
+        line, feo_choose(proposal.at, proposal.n, site.at, site.n, got.answer, room, &got.records) == refusal,
+        "the refusal of feo_choose");
+    check(line, got.records == choice.records, "the records of the answer");
+    check(line, memcmp(&got, &choice, sizeof got) == 0, "the answer, and the guard bytes");
+    check(line, memcmp(sheets[0].at, proposal.at, proposal.n) == 0, "the proposal stays");
+    check(line, memcmp(sheets[1].at, site.at, site.n) == 0, "the site's sheet stays");
+}
+
+/* From the request's bytes to those of its acceptance, with no answer written by hand. */
+static void chained(int line, const struct bytes *answer)
+{
+    static struct bytes rq, ac;
+    static uint8_t sheet[FEO_PROPOSAL_ROOM], own[FEO_ANSWER_ROOM], back[FEO_ANSWER_ROOM];
+    struct feo_associate f;
+    uint8_t got;
+    size_t n;
+    of_sheet(&rq, 1, &proposal);
+    of_sheet(&ac, 2, answer);
+    memset(sheet, 0xEE, sizeof sheet);
+    memset(own, 0xEE, sizeof own);
+    given(2);
+    heard(line, rq.at, rq.n, FEO_AE_6, 3, rq.n, 0, 0, rq.n);
+    check(line, feo_read_request(w.gather, w.r.shown, sheet, sizeof sheet, &f) == 0, "the request is read");
+    check(line, feo_choose(sheet, f.records * FEO_RECORD_LEN, site.at, site.n, own, sizeof own, &n) == 0, "its answer is chosen");
+    before();
+    got = feo_accept(
+        &w.a, w.gather + FEO_ECHOED_AT, FEO_ECHOED_LEN, w.gather + f.application_at, f.application_len, own, n * FEO_RECORD_LEN,
+        w.gather, FEO_BUFFER, w.out, FEO_BUFFER, &w.r);
+    local(line, got, FEO_AE_7, 6, ac.at, ac.n);
+    check(line, feo_read_accept(w.out, w.r.sent, back, sizeof back, &f) == 0 && f.records == n, "what is sent is read");
+    check(line, n * FEO_RECORD_LEN == answer->n && memcmp(back, answer->at, answer->n) == 0, "it is the answer");
+    check(line, feo_choose(sheet, sizeof sheet, site.at, site.n, own, sizeof own, &n) == 4 && n == 0, "the whole buffer is none");
+}
+
+/* This answer, by its letters: into exact room, more and less; and on the way from the request to its acceptance. */
+static void chooses(int line, const char *from_peer, const char *of_site, const char *to_peer)
+{
+    static struct bytes answer;
+    size_t records = 9;
+    lettered(&proposal, from_peer);
+    lettered(&site, of_site);
+    lettered(&answer, to_peer);
+    chosen(line, answer.n, 0, &answer);
+    chosen(line, answer.n + 1, 0, &answer);
+    chosen(line, FEO_ANSWER_ROOM, 0, &answer);
+    chosen(line, answer.n - 1, 2, &nothing);
+    chosen(line, answer.n - FEO_RECORD_LEN, 2, &nothing);
+    chosen(line, 0, 2, &nothing);
+    check(line, feo_choose(proposal.at, proposal.n, site.at, site.n, NULL, 0, &records) == 2 && records == 0, "no room at all");
+    chained(line, &answer);
+}
+
+#define CHOOSES(from_peer, of_site, to_peer) chooses(__LINE__, from_peer, of_site, to_peer)
+
+static void choosing(void)
+{
+    static struct bytes answer;
+    unsigned id;
+    /* each result, in the proposal's order */
+    CHOOSES("5:Aab 3:Bcb 255:Cba 1:Ab", "Ba Aa", "5:0a 3:4c 255:3b 1:4b");
+    CHOOSES("1:Aab", "Aa", "1:0a");
+    CHOOSES("1:Aab", "Ac", "1:4a");
+    CHOOSES("1:Aab", "Ba", "1:3a");
+    /* the first of several, in the site's order and not in the proposal's */
+    CHOOSES("1:Aabc", "Ac Ab Aa", "1:0c");
+    CHOOSES("1:Acba", "Aa Ab Ac", "1:0a");
+    CHOOSES("1:Aab", "Ac Ab Aa", "1:0b");
+    CHOOSES("1:Aabc 3:Babc", "Bc Ab Ac Ba", "1:0b 3:0c");
+    /* repeated records of the site, and of the proposal */
+    CHOOSES("1:Aab", "Ab Ab Aa Ab", "1:0b");
+    CHOOSES("1:Aab", "Ac Ac", "1:4a");
+    CHOOSES("1:Aabab", "Ab Aa", "1:0b");
+    CHOOSES("1:Acc", "Aa", "1:4c");
+    /* contexts with one abstract name */
+    CHOOSES("1:Aa 3:Aa 5:Aab", "Ab Aa", "1:0a 3:0a 5:0b");
+    CHOOSES("7:Ab 9:Ac 11:Aa", "Aa", "7:4b 9:4c 11:0a");
+    /* a transfer name of another context, and one that the site has with another abstract name */
+    CHOOSES("1:Aa 3:Ab", "Ab", "1:4a 3:0b");
+    CHOOSES("1:Aa 3:Ba", "Ab Ba", "1:4a 3:0a");
+    CHOOSES("1:Ca", "Aa Ba", "1:3a");
+    /* names that begin others, and that differ in one byte */
+    CHOOSES("1:Ba 3:Ca", "Ba", "1:0a 3:3a");
+    CHOOSES("1:Ba 3:Ca", "Ca", "1:3a 3:0a");
+    CHOOSES("1:Aa 3:Abc 5:Ad", "Ac Ab", "1:4a 3:0c 5:4d");
+    CHOOSES("1:Ab 3:Ac", "Aa Ad", "1:4b 3:4c");
+    CHOOSES("1:Aa 3:Fa", "Fa", "1:3a 3:0a");
+    CHOOSES("1:De 3:Ee", "De", "1:0e 3:3e");
+    CHOOSES("1:De 3:Df 5:Dfe", "De", "1:0e 3:4f 5:0e");
+    /* the most contexts, in a request */
+    proposal.n = answer.n = site.n = 0;
+    add_record(&site, 0, 0, "0", "1.0");
+    for (id = 255; id < 256; id -= 2) {
+        add_record(&proposal, id, 0, "0", id == 77 ? "1" : "1.0");
+        add_record(&answer, id, id == 77 ? 4 : 0, "", id == 77 ? "1" : "1.0");
+    }
+    CHECK(answer.n == FEO_ANSWER_ROOM);
+    chained(__LINE__, &answer);
+    chosen(__LINE__, FEO_ANSWER_ROOM, 0, &answer);
+    chosen(__LINE__, FEO_ANSWER_ROOM - 1, 2, &nothing);
+    /* and with names that no request has room for */
+    proposal.n = answer.n = 0;
+    lettered(&site, "De");
+    for (id = 1; id < 256; id += 2) {
+        add_record(&proposal, id, 0, SIXTY_FOUR, SIXTY_FOUR);
+        add_record(&answer, id, 0, "", SIXTY_FOUR);
+    }
+    given(4);
+    REFUSED(confirm(0, FEO_BUFFER), 5);
+    chosen(__LINE__, FEO_ANSWER_ROOM, 0, &answer);
+    good_contents();
+}
+
+/* Refused with 4, whatever the room; or answered. */
+static void judged(int line, unsigned refusal)
+{
+    size_t records;
+    if (refusal != 0) {
+        chosen(line, FEO_ANSWER_ROOM, refusal, &nothing);
+        chosen(line, 0, refusal, &nothing);
+    } else
+        check(line, feo_choose(proposal.at, proposal.n, site.at, site.n, w.out, FEO_BUFFER, &records) == 0, "it is answered");
+}
+
+/* This sheet as a proposal, and without its IDs as the site's: refused with 4 exactly where feo_confirm refuses it so. */
+static void either_way(int line, const struct bytes *sheet)
+{
+    unsigned refusal;
+    size_t i;
+    proposal = *sheet;
+    given(4);
+    refusal = confirm(0, FEO_BUFFER);
+    check(line, refusal == 0 || refusal == 4, "the refusal of feo_confirm");
+    lettered(&site, "Aa");
+    judged(line, refusal);
+    site = *sheet;
+    for (i = 0; i < site.n; i += FEO_RECORD_LEN)
+        site.at[i] = 0;
+    lettered(&proposal, "1:Aa");
+    judged(line, refusal);
+}
+
+#define MANY ((size_t)40000 * FEO_RECORD_LEN)
+
+/* 40,000 records: the first of these two, and at the end the second. */
+static uint8_t *many(const char *two)
+{
+    static struct bytes sheet;
+    uint8_t *to = (uint8_t *)malloc(MANY);
+    size_t i;
+    CHECK(to != NULL);
+    lettered(&sheet, two);
+    for (i = 0; i < MANY; i += FEO_RECORD_LEN)
+        memcpy(to + i, sheet.at + (i == MANY - FEO_RECORD_LEN ? FEO_RECORD_LEN : 0), FEO_RECORD_LEN);
+    return to;
+}
+
+/* Bad proposals and bad sheets of a site. */
+static void not_choosing(void)
+{
+    static const char *const names[] = { "", "0", "00", "1.0", "1.", ".1", "1..2", "1.02", "1.a", "1.2 ", "-1", "1.2" };
+    static const char *const proposals[] = { "1:Aa 1:Ba", "1:Aa 3:Ba 1:Aa", "1:Aa 3:Aa 1:Aa", "1:Aa 3:Ba 4:Aa", "Aa", "1:0a" };
+    static const uint8_t values[] = { 0, 1, '-', '.', '/', '0', '9', ':', 0xFF };
+    /* a place of a site record, and a byte there: ID, result; a name that is empty, too long, cut, or none; unused bytes */
+    static const uint8_t faults[][2] = {
+        { 0, 1 }, { 0, 255 }, { 1, 3 }, { 2, 0 }, { 2, 65 }, { 2, 16 }, { 3, 0 }, { 3, 65 }, { 3, 16 },
+        { 4, 'a' }, { 20, '.' }, { 68, 0 }, { 84, '.' }, { 21, 1 }, { 67, '0' }, { 85, '0' }, { 131, 1 }
+    };
+    static struct bytes sheet, answer;
+    uint8_t *great;
+    size_t i, k, records;
+    unsigned v;
+    lettered(&proposal, "1:Aa");
+    for (i = 0; i < sizeof faults / sizeof *faults; i++)
+        for (k = 0; k < 2; k++) {
+            lettered(&site, "Aa Aa");
+            site.at[k * FEO_RECORD_LEN + faults[i][0]] = faults[i][1];
+            judged(__LINE__, 4);
+        }
+    /* each byte of two records, of which the second is not needed for an answer; then their lengths */
+    for (i = 0; i < 2 * FEO_RECORD_LEN; i++)
+        for (v = 0; i % FEO_RECORD_LEN != FEO_RECORD_ID_AT && v < sizeof values; v++) {
+            lettered(&sheet, "1:Aa 3:Bb");
+            sheet.at[i] = values[v];
+            either_way(__LINE__, &sheet);
+        }
+    for (v = 0; v < 256; v++)
+        for (i = FEO_RECORD_RESULT_AT; i <= FEO_RECORD_TRANSFER_LEN_AT; i++) {
+            lettered(&sheet, "1:Aa 3:Bb");
+            sheet.at[FEO_RECORD_LEN + i] = (uint8_t)v;
+            either_way(__LINE__, &sheet);
+        }
+    for (i = 0; i < sizeof names / sizeof *names; i++)
+        for (k = 0; k < 2; k++) {
+            lettered(&sheet, "1:Aa");
+            add_record(&sheet, 3, 0, k == 0 ? names[i] : ECHO_CLASS, k == 0 ? IMPLICIT : names[i]);
+            either_way(__LINE__, &sheet);
+        }
+    lettered(&sheet, "1:Aa 1:Aa 1:Aa");
+    for (sheet.n = 0; sheet.n < 2 * FEO_RECORD_LEN + 2; sheet.n++)
+        either_way(__LINE__, &sheet);
+    /* IDs */
+    for (v = 0; v < 256; v++)
+        for (k = 0; k < 2; k++) {
+            lettered(&proposal, "1:Aa");
+            lettered(&site, "Aa Bb");
+            site.at[k * FEO_RECORD_LEN] = (uint8_t)v;
+            judged(__LINE__, v == 0 ? 0 : 4);
+            lettered(&proposal, "1:Aa 3:Bb");
+            lettered(&site, "Aa Bb");
+            proposal.at[k * FEO_RECORD_LEN] = (uint8_t)v;
+            judged(__LINE__, v % 2 == 1 && v != (k == 0 ? 3 : 1) ? 0 : 4);
+        }
+    for (i = 0; i < sizeof proposals / sizeof *proposals; i++) {
+        lettered(&proposal, proposals[i]);
+        given(4);
+        REFUSED(confirm(0, FEO_BUFFER), 4);
+        judged(__LINE__, 4);
+        site.n = 0;
+        judged(__LINE__, 4);
+        lettered(&site, "Aa Bb");
+    }
+    /* no sheet at all */
+    lettered(&proposal, "1:Aa");
+    records = 9;
+    CHECK(feo_choose(proposal.at, proposal.n, NULL, 0, NULL, 0, &records) == 4 && records == 0);
+    records = 9;
+    CHECK(feo_choose(NULL, 0, site.at, site.n, NULL, 0, &records) == 4 && records == 0);
+    records = 9;
+    CHECK(feo_choose(NULL, 0, NULL, 0, NULL, 0, &records) == 4 && records == 0);
+    /* 40,000 records of one context, then of the site, the last of them chosen; then that one is bad */
+    lettered(&answer, "1:0b");
+    lettered(&site, "Ab");
+    great = many("1:Aab");
+    CHECK(feo_choose(great, MANY, site.at, site.n, w.out, FEO_RECORD_LEN, &records) == 0 && records == 1);
+    CHECK(memcmp(w.out, answer.at, FEO_RECORD_LEN) == 0);
+    great[MANY - 1] = 1;
+    CHECK(feo_choose(great, MANY, site.at, site.n, w.out, FEO_RECORD_LEN, &records) == 4 && records == 0);
+    free(great);
+    lettered(&proposal, "1:Ab");
+    great = many("Aa Ab");
+    CHECK(feo_choose(proposal.at, proposal.n, great, MANY, w.out, FEO_RECORD_LEN, &records) == 0 && records == 1);
+    CHECK(memcmp(w.out, answer.at, FEO_RECORD_LEN) == 0);
+    great[MANY - 1] = 1;
+    CHECK(feo_choose(proposal.at, proposal.n, great, MANY, w.out, FEO_RECORD_LEN, &records) == 4 && records == 0);
+    free(great);
+    /* records that feo_put_record writes */
+    CHECK(feo_put_record(site.at, 0, 0, ECHO_CLASS, strlen(ECHO_CLASS), IMPLICIT, strlen(IMPLICIT)) == 0);
+    lettered(&sheet, "Aa");
+    CHECK(memcmp(site.at, sheet.at, FEO_RECORD_LEN) == 0);
+    good_contents();
+}
+
 /* The bytes in front of a fragment: each length, any ID and control byte; then as items of feo_send. */
 static void pdvs(void)
 {
@@ -1346,6 +1649,8 @@ int main(void)
     reading();
     places();
     records();
+    choosing();
+    not_choosing();
     pdvs();
     fragment_max();
     reasons();
