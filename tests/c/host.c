@@ -79,9 +79,17 @@ static uint32_t summed(uint32_t sum, const uint8_t *p, size_t n)
     return sum;
 }
 
-/* Our titles. */
+/* Our titles, and what our site takes. */
 static const char own[] = "STORE-EXOTIC     STORE-EQUINE   ";
 static size_t own_len = 32;
+
+#define CR_IMAGE "1.2.840.10008.5.1.4.1.1.1"
+#define EXPLICIT "1.2.840.10008.1.2.1"
+#define JPEG "1.2.840.10008.1.2.4.50"
+
+static const struct liked liked[3] = { { ECHO_CLASS, IMPLICIT }, { CR_IMAGE, EXPLICIT }, { CR_IMAGE, IMPLICIT } };
+static uint8_t site[3 * FEO_RECORD_LEN];
+static size_t site_len = sizeof site;
 
 void act(struct line *l, const struct feo_answer *r)
 {
@@ -93,7 +101,7 @@ void act(struct line *l, const struct feo_answer *r)
     if (besides != NULL)
         besides(l, r->action);
     if (r->action == FEO_AE_6 && l->a.state == FEO_STA_3)
-        answer_request(l, r->shown, (const uint8_t *)own, own_len);
+        answer_request(l, r->shown, (const uint8_t *)own, own_len, site, site_len);
     if (r->action == FEO_DT_2)
         for (at = FEO_HEADER_LEN; feo_pdv_at(l->gather, r->shown, at, &id, &control, &start, &length) == 0; at = start + length) {
             got.fragments += length;
@@ -193,9 +201,14 @@ static void asks(const char *called, const uint8_t *command, size_t n, int conne
     must(waitpid(child, &status, 0) == child && status == 0, "the peer is content");
 }
 
+static int told(const char *actions, const char *refusals)
+{
+    return strcmp(got.seen, actions) == 0 && strcmp(got.refusals, refusals) == 0;
+}
+
 static int sees(const char *actions)
 {
-    return strcmp(got.seen, actions) == 0 && got.refusals[0] == 0;
+    return told(actions, "");
 }
 
 static int comes_back(const struct bytes *b)
@@ -273,39 +286,36 @@ static void in_one_read(void)
     association();
 }
 
-/* Two contexts with two transfer syntaxes each. */
-static void two_contexts(struct bytes *to)
-{
-    static const char *const transfers[2] = { IMPLICIT, "1.2.840.10008.1.2.1" };
-    static struct bytes b, context;
-    size_t i;
-    b.n = 0;
-    add_fixed(&b, 1);
-    add_name(&b, 0x10, APPLICATION);
-    for (i = 0; i < 2; i++) {
-        context.n = 0;
-        add_four(&context, i == 0 ? 0x01000000 : 0x07000000);
-        add_name(&context, 0x30, ECHO_CLASS);
-        add_name(&context, 0x40, transfers[i]);
-        add_name(&context, 0x40, transfers[1 - i]);
-        add_item(&b, 0x20, context.at, context.n);
-    }
-    add_user(&b, 16384);
-    whole(to, 1, &b);
-}
-
-/* The first transfer syntax of each context is taken; another application context or title is rejected. */
+/* Contexts are taken and refused by the site's sheet; another application context or title is rejected. */
 static void answered(void)
 {
-    uint8_t sheet[3 * FEO_RECORD_LEN];
-    struct feo_associate f;
-    two_contexts(&all);
+    static struct bytes proposal, answer;
+    proposal.n = answer.n = 0;
+    add_record(&proposal, 1, 0, ECHO_CLASS, EXPLICIT);
+    add_record(&proposal, 1, 0, ECHO_CLASS, IMPLICIT);
+    add_record(&answer, 1, 0, "", IMPLICIT);
+    add_record(&proposal, 255, 0, "1.2.840.10008.5.1.4.1.1.1.1", EXPLICIT);
+    add_record(&proposal, 255, 0, "1.2.840.10008.5.1.4.1.1.1.1", IMPLICIT);
+    add_record(&answer, 255, FEO_CONTEXT_ABSTRACT_NOT_SUPPORTED, "", EXPLICIT);
+    add_record(&proposal, 7, 0, CR_IMAGE, JPEG);
+    add_record(&answer, 7, FEO_CONTEXT_TRANSFER_NOT_SUPPORTED, "", JPEG);
+    add_record(&proposal, 3, 0, CR_IMAGE, IMPLICIT);
+    add_record(&proposal, 3, 0, CR_IMAGE, EXPLICIT);
+    add_record(&answer, 3, 0, "", EXPLICIT);
+    of_sheet(&all, 1, &proposal);
+    of_sheet(&pdu, 2, &answer);
     talk(&all, AT_ONCE, 0);
-    must(sees("AE-5 AE-6 AE-7 AA-4 ") && feo_read_accept(got.back.at, got.back.n, sheet, sizeof sheet, &f) == 0, "two contexts");
-    pdu.n = 0;
-    add_record(&pdu, 1, 0, "", IMPLICIT);
-    add_record(&pdu, 7, 0, "", "1.2.840.10008.1.2.1");
-    must(f.records == 2 && memcmp(sheet, pdu.at, pdu.n) == 0, "each with the first transfer syntax");
+    must(sees("AE-5 AE-6 AE-7 AA-4 ") && comes_back(&pdu), "four contexts, two of them taken");
+    proposal.n = answer.n = 0;
+    add_record(&proposal, 1, 0, CR_IMAGE, JPEG);
+    add_record(&answer, 1, FEO_CONTEXT_TRANSFER_NOT_SUPPORTED, "", JPEG);
+    of_sheet(&all, 1, &proposal);
+    of_sheet(&pdu, 2, &answer);
+    talk(&all, AT_ONCE, 0);
+    must(sees("AE-5 AE-6 AE-7 AA-4 ") && comes_back(&pdu), "one context, refused");
+    site_len = FEO_RECORD_LEN - 1;
+    talk(&rq, AT_ONCE, 0);
+    must(told("AE-5 AE-6 AA-1 AR-5 ", "feo_choose: bad contents. "), "with a bad sheet of the site it is aborted");
     request(&all, 1, "1.2.840.10008.3.1.1.2", ECHO_CLASS, IMPLICIT);
     talk(&all, AT_ONCE, 0);
     ten(&pdu, 3, 0, 1, 1, 2);
@@ -315,13 +325,22 @@ static void answered(void)
     talk(&all, AT_ONCE, 0);
     ten(&pdu, 3, 0, 1, 1, 7);
     must(sees("AE-5 AE-6 AE-8 AR-5 ") && comes_back(&pdu), "another called title");
+    site_len = sizeof site;
     own_len = 31;
     talk(&rq, AT_ONCE, 0);
     own_len = 32;
-    must(
-        strcmp(got.seen, "AE-5 AE-6 AA-1 AR-5 ") == 0 && strcmp(got.refusals, "feo_title_known: bad contents. ") == 0,
-        "where it cannot be answered it is aborted");
+    must(told("AE-5 AE-6 AA-1 AR-5 ", "feo_title_known: bad contents. "), "where it cannot be answered it is aborted");
     association();
+}
+
+/* The site's sheet is tested when it is written. */
+static void site_written(void)
+{
+    static const struct liked no_name = { ECHO_CLASS, "1.02" }, too_long = { SIXTY_FOUR "0", IMPLICIT };
+    uint8_t one[FEO_RECORD_LEN];
+    must(write_site(site, liked, 3) == FEO_NOT_REFUSED, "the site's sheet");
+    must(write_site(one, &no_name, 1) == FEO_BAD_CONTENTS && write_site(one, &too_long, 1) == FEO_BAD_CONTENTS, "a name that is none");
+    must(write_site(one, liked, 0) == FEO_BAD_CONTENTS, "a sheet without a record");
 }
 
 static uint8_t sleeps_at;
@@ -436,9 +455,7 @@ static void requestor(void)
     asks("STORE-EQUINE    ", command, 0, 0);
     must(sees("AE-1 AA-4 "), "a connection that is not there");
     asks("BACK\\SLASH      ", command, 0, 1);
-    must(
-        strcmp(got.seen, "AE-1 AA-2 ") == 0 && strcmp(got.refusals, "feo_confirm: bad contents. ") == 0,
-        "a title that may not be sent is told, and ends it");
+    must(told("AE-1 AA-2 ", "feo_confirm: bad contents. "), "a title that may not be sent is told, and ends it");
 }
 
 /* A peer that takes no byte of data in a P-DATA-TF. */
@@ -453,9 +470,7 @@ static void no_room(void)
     l.fd = ends[1];
     deliver(&l, "STORE-EQUINE    ", "NIGHT-SCANNER   ", (const uint8_t *)"x", 1);
     close(ends[0]);
-    must(
-        strcmp(got.seen, "AE-1 AE-2 AE-3 AA-1 AR-5 ") == 0 && strcmp(got.refusals, "feo_fragment_max: PDU too long. ") == 0,
-        "no room for data is told, and ends it");
+    must(told("AE-1 AE-2 AE-3 AA-1 AR-5 ", "feo_fragment_max: PDU too long. "), "no room for data is told, and ends it");
 }
 
 static void fails_at_once(void)
@@ -516,6 +531,7 @@ static void refusals(void)
 
 int main(void)
 {
+    site_written();
     association();
     served();
     in_one_read();
