@@ -6,6 +6,8 @@ import os
 import subprocess
 import sys
 
+from choices import RECORD, choices
+
 HERE = os.path.dirname(os.path.abspath(__file__))
 KINDS = ["no valid PDU", "RQ", "AC", "RJ", "P-DATA-TF", "RELEASE-RQ", "RELEASE-RP", "ABORT"]
 # the state that waits for a PDU of a type, and its marks: ARTIM, requestor
@@ -58,6 +60,14 @@ def request(kind, items):
     return bytes([kind, 0xFF]) + (len(fixed) + len(items)).to_bytes(4, "big") + fixed + items
 
 
+def digest(buffer):
+    """of a whole lent buffer, as docs/REPLAY.md has it"""
+    h = 1
+    for b in buffer:
+        h = (h * 257 + b + 1) % 4294967291
+    return h
+
+
 def answers(command, lines):
     run = subprocess.run(command, input="".join(line + "\n" for line in lines).encode(), stdout=subprocess.PIPE, check=True)
     return run.stdout.decode().split("\n")[:-1]
@@ -96,14 +106,18 @@ def main():
         pdu = request(code, bytes.fromhex(text.replace("-", "")))
         calls.append((name, f"K {words(pdu)}", [str(code * int(good))]))
         calls.append((name, f"{' QA'[code]} {words(pdu)} 66000", ["0" if good == "1" else "7"]))
+    items = (len(calls) - count - names) // 2
+    for what, proposal, site, room, refusal, chosen in choices():
+        lent = chosen + b"\xc3" * (room - len(chosen))
+        calls.append((what, f"C {words(proposal)} {words(site)} {room}", [str(refusal), str(len(chosen) // RECORD), str(digest(lent))]))
+    chosen = len(calls) - count - names - 2 * items
     lines = [call for _, call, _ in calls]
     answered = [answers([second, "answer"], lines), answers(replay, lines)]
     for program, got in zip(["the second program", "replay"], answered):
         if len(got) != len(lines):
             sys.exit(f"{program}: {len(got)} answers to {len(lines)} calls")
-    items = (len(calls) - count - names) // 2
-    if not count or not names or not items:
-        sys.exit("there is no recorded stream, no name or no list of items")
+    if not count or not names or not items or not chosen:
+        sys.exit("there is no recorded stream, no name, no list of items or no choice")
     for (where, call, expected), theirs, ours in zip(calls, *answered):
         if len(ours.split()) < len(expected or []):
             sys.exit(f"{where}: {call[:200]}\n  answer: {ours}\n  expected {len(expected)} words")
@@ -113,7 +127,7 @@ def main():
             if wanted is not None and got != wanted:
                 sys.exit(f"{where}: {call[:200]}\n  answer: {ours}\n  expected: {' '.join(w or '*' for w in expected)}")
     kinds = ", ".join(f"{n} {kind}" for kind, n in seen.items() if n)
-    print(f"{kinds}; {count} calls on them, {names} names and {items} lists of items answered alike and as expected")
+    print(f"{kinds}; {count} calls on them, {names} names, {items} lists of items and {chosen} choices answered alike and as expected")
 
 
 main()
