@@ -1,7 +1,8 @@
 """Holds the numbers that have a name to one value: as a constant of the code, in the definitions (a dash for each underscore) and in include/feohanna.h (FEO_ before it).
 
 Where a crate has a name in both its code and its definitions, the values are equal; refusals, kinds, lengths, actions and events stand in both. The header's refusals, actions and
-events are those of the code, and it has every length of the code but TEN, some with _LEN behind the name; the rooms of its sheets are those that reading proves to be enough.
+events are those of the code, and it has every length of the code but TEN, some with _LEN behind the name; the rooms of its sheets are those that sheet_room proves to be enough, and its results of
+a context (CONTEXT_ before the name) have those that choosing gives.
 """
 import glob
 import re
@@ -12,6 +13,7 @@ DEFINED = re.compile(r"^abbrev pub ([A-Z][A-Z0-9-]*|····) : ℕ\n\1 = (0x[0-
 HEADER = "include/feohanna.h"
 LENGTHS = "crates/numbers/src/lengths.rt"
 ROOM = "crates/sheet_room/proofs/Room.antt"
+RESULTS = "crates/choosing/src/answer.rt"
 BOTH = [
     ("crates/numbers/src/refusals.rt", "crates/numbers/specs/Refusals.antt"),
     ("crates/numbers/src/kinds.rt", "crates/numbers/specs/Kinds.antt"),
@@ -81,6 +83,9 @@ def main():
     for pair in header:
         same(*pair)
         both(*pair)
+    results, given = {name.replace("CONTEXT_", "", 1): value for name, value in enum("feo_context_result_number").items()}, named(CONSTANT, [RESULTS])
+    same(RESULTS, given, results, f"{HEADER}, feo_context_result_number")
+    wrong.extend(f"{HEADER} has no result {name}, which {RESULTS} gives" for name in sorted(given.keys() - results.keys()))
     for line in wrong:
         print(line)
     if wrong or not compared:

@@ -21,7 +21,7 @@ use Rattle.sheets.proofs.RecordLaws.{transfer-most, record-length}
 use Rattle.sheets.proofs.RunLaws.{contexts-none}
 use Rattle.sheets.proofs.Inverse.{proposal-whole, site-whole}
 use Rattle.choosing.specs.Choice.{Liked, likedOf, siteIn, matches, firstProposed, transferFor, chosen, chosenFor}
-use Rattle.choosing.specs.Call.{chosenSheet, chooseRefusal, chosenOf, chosenBytes, Chose}
+use Rattle.choosing.specs.Call.{chosenSheet, chooseRefusal, noneChosen, chosenOf, chosenBytes, Chose}
 use Rattle.choosing.specs.declared.Chosen.{Chosen}
 use Rattle.choosing.specs.Private.Runs.{runContext, Run, answerRecord}
 use Rattle.choosing.proofs.RunLaws.{run-length}
@@ -132,17 +132,17 @@ module _ (o₀ s site o : List ℕ) (n at : ℕ) (v : Putting o₀ s site o n at
 pub ruleset put-laws = (needs, put-start, put-place, put-long, put-from, put-to, put-run, put-records, put-less, put-whole, put-next, put-done)
 
 -- ---- `choose`
-pub bad-proposal : (s site o : List ℕ) (b : Bool) → b ≡ proposalOk s → not b ≡ true → Chose s site o (record { refusal = BAD-CONTENTS; records = 0 }) o
+pub bad-proposal : (s site o : List ℕ) (b : Bool) (r : Chosen) → b ≡ proposalOk s → not b ≡ true → r ≡ noneChosen BAD-CONTENTS → Chose s site o r o
 unfolding chosenOf chosenBytes chooseRefusal front
-bad-proposal s site o b e t = let k : proposalOk s ≡ false = sym e ∙ not-true b t in record { answer = simp k; sheet = simp k }
+bad-proposal s site o b r e t q = let k : proposalOk s ≡ false = sym e ∙ not-true b t in record { answer = q ∙ simp k; sheet = simp k }
 
 module _ (s site o : List ℕ) (b : Bool) (e : b ≡ proposalOk s) (t : not b ≡ false) (d : Bool) (f : d ≡ siteOk site) where
   good-proposal : proposalOk s ≡ true
   good-proposal = sym e ∙ not-false b t
 
-  pub bad-site : not d ≡ true → Chose s site o (record { refusal = BAD-CONTENTS; records = 0 }) o
+  pub bad-site : (r : Chosen) → not d ≡ true → r ≡ noneChosen BAD-CONTENTS → Chose s site o r o
   unfolding chosenOf chosenBytes chooseRefusal front
-  bad-site u = let k : siteOk site ≡ false = sym f ∙ not-true d u in record { answer = simp (good-proposal, k); sheet = simp (good-proposal, k) }
+  bad-site r u q = let k : siteOk site ≡ false = sym f ∙ not-true d u in record { answer = q ∙ simp (good-proposal, k); sheet = simp (good-proposal, k) }
 
   pub good-whole : length s % RECORD ≡ 0
   good-whole = proposal-whole s good-proposal
@@ -155,11 +155,11 @@ module _ (s site o : List ℕ) (b : Bool) (e : b ≡ proposalOk s) (t : not b �
     good-records = site-whole site good-site
 
     module _ (n : ℕ) (k : n ≡ length (contextsIn s)) where
-      pub no-room : length o / 132 < n → Chose s site o (record { refusal = SHORT-OUTPUT; records = 0 }) o
+      pub no-room : (r : Chosen) → length o / 132 < n → r ≡ noneChosen SHORT-OUTPUT → Chose s site o r o
       unfolding chosenOf chosenBytes chooseRefusal front
-      no-room h =
+      no-room r h q =
           let l : ltb (length o) (RECORD * length (contextsIn s)) ≡ true = lt-ltb (length o) (RECORD * length (contextsIn s)) (omega arith) in
-          record { answer = simp (good-proposal, good-site, l); sheet = simp (good-proposal, good-site, l) }
+          record { answer = q ∙ simp (good-proposal, good-site, l); sheet = simp (good-proposal, good-site, l) }
 
       pub some-room : n ≤ length o / 132 → RECORD * length (contextsIn s) ≤ length o
       some-room h = omega arith

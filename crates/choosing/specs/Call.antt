@@ -28,11 +28,15 @@ chooseTests proposal site room =
 unfoldable pub chooseRefusal : List ℕ → List ℕ → ℕ → ℕ
 chooseRefusal proposal site room = firstDue (chooseTests proposal site room)
 
--- a record for each context; refused: none
+-- refused: no record
+abbrev pub noneChosen : ℕ → Chosen
+noneChosen n = record { refusal = n; records = 0 }
+
+-- answered: a record for each context
 unfoldable pub chosenOf : List ℕ → List ℕ → ℕ → Chosen
 chosenOf proposal site room =
     cond (eqb (chooseRefusal proposal site room) NOT-REFUSED) (record { refusal = NOT-REFUSED; records = length (contextsIn proposal) })
-    (record { refusal = chooseRefusal proposal site room; records = 0 })
+    (noneChosen (chooseRefusal proposal site room))
 
 -- what the lent sheet then starts with
 unfoldable pub chosenBytes : List ℕ → List ℕ → ℕ → List ℕ

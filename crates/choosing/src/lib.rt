@@ -8,7 +8,7 @@ ghost use lib.ListN.{length};
 ghost use Rattle.numbers.specs.Lengths.{RECORD};
 ghost use Rattle.octets.specs.Private.Put.{Put};
 ghost use Rattle.sheets.specs.Sheet.{contextsIn};
-ghost use Rattle.choosing.specs.Call.{chosenSheet, Chose};
+ghost use Rattle.choosing.specs.Call.{chosenSheet, noneChosen, Chose};
 use crate::answer::answer_to;
 use crate::runs::count;
 use crate::runs::run_end;
@@ -17,6 +17,15 @@ use crate::runs::run_end;
 pub struct Chosen {
     pub refusal: u8,
     pub records: usize,
+}
+
+fn refused(refusal: u8) -> Chosen
+    ensures { λ r. ⌜ r ≡ noneChosen refusal ⌝ }
+{
+    Chosen {
+        refusal: refusal,
+        records: 0,
+    }
 }
 
 // Writes the answers, a record for each context.
@@ -40,23 +49,14 @@ pub fn choose(proposal: &[u8], site: &[u8], answer: &mut [u8]) -> Chosen
     ensures { λ r. ⌜ Chose (now (proposal .entry)) (now (site .entry)) (now (answer .entry)) r (now (answer .exit)) ⌝ }
 {
     if !sheets::proposal_ok(proposal) {
-        return Chosen {
-            refusal: numbers::BAD_CONTENTS,
-            records: 0,
-        };
+        return refused(numbers::BAD_CONTENTS);
     }
     if !sheets::site_ok(site) {
-        return Chosen {
-            refusal: numbers::BAD_CONTENTS,
-            records: 0,
-        };
+        return refused(numbers::BAD_CONTENTS);
     }
     let n = count(proposal);
     if answer.len() / numbers::RECORD < n {
-        return Chosen {
-            refusal: numbers::SHORT_OUTPUT,
-            records: 0,
-        };
+        return refused(numbers::SHORT_OUTPUT);
     }
     put_answers(answer, proposal, site);
     Chosen {

@@ -84,7 +84,7 @@ byte? x = ltb x 256
 runs-bytes : (rs : List (List ℕ)) → all (λ r. byte? (recordId r)) rs ≡ true → all byte? (map contextId (sheetRuns rs)) ≡ true
 unfolding sheetRuns start
 runs-bytes [] g = refl
-runs-bytes (r ∷ rs) g = both-of _ _ (left-of _ _ g) (go (sheetRuns rs) (goesOn r (sheetRuns rs)) (runs-bytes rs (right-of (byte? (recordId r)) _ g)))
+runs-bytes (r ∷ rs) g = both-of (byte? (recordId r)) _ (left-of (byte? (recordId r)) _ g) (go (sheetRuns rs) (goesOn r (sheetRuns rs)) (runs-bytes rs (right-of (byte? (recordId r)) _ g)))
   where
     go : (cs : List Context) (b : Bool) → all byte? (map contextId cs) ≡ true → all byte? (map contextId (cond b (others cs) cs)) ≡ true
     go cs false h = h
@@ -146,7 +146,9 @@ bytes-take k s b i = go (decLt i k)
   where
     go : Dec (i < k) → getD (take k s) i 0 < 256
     go (yes h) = rw (getD-take k s i 0 h) (b i)
-    go (no h) = rw (List·getD-eq-default (take k s) 0 (omega (arith, length-take k s))) (omega arith)
+    go (no h) =
+        let l : length (take k s) ≤ i = omega (arith, length-take k s) in
+        rw (List·getD-eq-default (take k s) 0 l) (omega arith)
 
 module _ (pdu site answer′ : List ℕ) (f : Associate) (c : Chosen) (h : Chain pdu site answer′ f c) where
   abbrev proposal : List ℕ
