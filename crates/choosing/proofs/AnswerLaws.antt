@@ -2,17 +2,16 @@
 -- Assumes nothing.
 use Prim.Native.Nat.{ℕ, _+_, _-_, _%_, _≤_, _<_}
 use native.Mathlib.Omega.{arith}
-use mathlib.Core.Bool.{Bool, true, false, not, _&&_, _||_, cond, and-false}
+use mathlib.Core.Bool.{Bool, true, false, not, _||_, cond}
 use mathlib.Core.List.{List, [], _∷_, map}
-use mathlib.Core.Path.{_≡_, refl, sym, ap, _∙_}
+use mathlib.Core.Path.{_≡_, refl, sym, _∙_}
 use lib.ListN.{length, take, drop, getD, length-drop}
 use borrow.Author.Needs.{needs}
 use borrow.Author.Tests.{not-true, not-false}
 use Rattle.laws.specs.Lists.{any, sameBytes}
-use Rattle.laws.proofs.Booleans.{held}
 use Rattle.numbers.specs.Lengths.{RECORD}
-use Rattle.sheets.specs.Contexts.{Context, Answered}
-use Rattle.sheets.specs.Sheet.{recordId, abstractOf, transferOf, recordsOf}
+use Rattle.sheets.specs.Contexts.{Context}
+use Rattle.sheets.specs.Sheet.{transferOf, recordsOf}
 use Rattle.sheets.specs.Record.{recordOf, recordAt, abstractAt, transferAt}
 use Rattle.sheets.proofs.RecordLaws.{abstract-here, transfer-here, transfer-short, record-whole}
 use Rattle.sheets.proofs.RunLaws.{record-here, records-none}

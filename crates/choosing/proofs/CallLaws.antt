@@ -7,7 +7,7 @@ use mathlib.Core.List.{List, [], _∷_, _++_, map}
 use mathlib.Core.Path.{_≡_, refl, sym, ap, _∙_}
 use lib.ListN.{length, take, drop, length-append, length-drop}
 use lib.Seq.{length-take-le}
-use lib.Dec.{ltb, eqb}
+use lib.Dec.{ltb}
 use borrow.Author.Needs.{needs}
 use borrow.Author.Tests.{lt-ltb, le-ltb, not-true, not-false}
 use Rattle.numbers.specs.Lengths.{RECORD}
@@ -15,12 +15,11 @@ use Rattle.numbers.specs.Refusals.{NOT-REFUSED, SHORT-OUTPUT, BAD-CONTENTS}
 use Rattle.octets.specs.Put.{put, front, Placed}
 use Rattle.octets.specs.Private.Put.{Put}
 use Rattle.octets.proofs.PutLaws.{put-put, put-length, put-none, put-front, placed-put}
-use Rattle.sheets.specs.Contexts.{Context}
 use Rattle.sheets.specs.Sheet.{transferOf, recordsOf, answerSheetOf, contextsIn, proposalOk, siteOk}
 use Rattle.sheets.proofs.RecordLaws.{transfer-most, record-length}
 use Rattle.sheets.proofs.RunLaws.{contexts-none}
 use Rattle.sheets.proofs.Inverse.{proposal-whole, site-whole}
-use Rattle.choosing.specs.Choice.{Liked, likedOf, siteIn, matches, firstProposed, transferFor, chosen, chosenFor}
+use Rattle.choosing.specs.Choice.{likedOf, siteIn, matches, firstProposed, transferFor, chosen, chosenFor}
 use Rattle.choosing.specs.Call.{chosenSheet, chooseRefusal, noneChosen, chosenOf, chosenBytes, Chose}
 use Rattle.choosing.specs.declared.Chosen.{Chosen}
 use Rattle.choosing.specs.Private.Runs.{runContext, Run, answerRecord}

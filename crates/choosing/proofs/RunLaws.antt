@@ -13,7 +13,7 @@ use Rattle.sheets.specs.Contexts.{Context}
 use Rattle.sheets.specs.Sheet.{recordId, abstractOf, transferOf, recordsOf, goesOn, start, contextsIn}
 use Rattle.sheets.specs.Record.{recordAt, goesOnAt}
 use Rattle.sheets.proofs.RecordLaws.{abstract-here}
-use Rattle.sheets.proofs.RunLaws.{records-cons, records-none, contexts-here, contexts-none, on-here, on-there}
+use Rattle.sheets.proofs.RunLaws.{records-cons, contexts-here, contexts-none, on-here, on-there}
 use Rattle.choosing.specs.Private.Runs.{runContext, Run}
 
 -- ---- a record, and the transfer names of those behind it

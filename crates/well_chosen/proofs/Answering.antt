@@ -15,7 +15,7 @@ use Rattle.laws.proofs.Booleans.{left-of, right-of, both-of}
 use Rattle.laws.proofs.Refusals.{not-due}
 use Rattle.numbers.specs.Kinds.{ASSOCIATE-RQ}
 use Rattle.numbers.specs.Lengths.{RECORD}
-use Rattle.numbers.specs.Refusals.{NOT-REFUSED, SHORT-OUTPUT, BAD-CONTENTS, NO-SUCH-PDU}
+use Rattle.numbers.specs.Refusals.{NOT-REFUSED, NO-SUCH-PDU}
 use Rattle.octets.specs.Octets.{odd}
 use Rattle.octets.specs.Put.{front}
 use Rattle.octets.proofs.PutLaws.{front-start}
@@ -28,12 +28,12 @@ use Rattle.judging.proofs.KindLaws.{kind-whole, whole-length, whole-limit, requ
 use Rattle.sheets.specs.Contexts.{Context, Answered, contextId, contextOk, contextsOk}
 use Rattle.sheets.specs.Sheet.{recordId, recordsOf, goesOn, others, start, sheetRuns, contextsIn, answersIn, proposalOk, siteOk}
 use Rattle.sheets.proofs.Inverse.{proposal-contexts}
-use Rattle.reading.specs.Associate.{proposed, applicationOf, applicationAt, sheetIn, fieldsOf, associateRefusal, associateOf, filling, Read}
+use Rattle.reading.specs.Associate.{proposed, applicationOf, sheetIn, fieldsOf, associateRefusal, associateOf, filling, Read}
 use Rattle.reading.specs.declared.associate.Associate.{Associate}
 use Rattle.reading.proofs.Meaning.{refusal-is, request-sheet-good, request-sheet-back, request-records, application-stands}
 use Rattle.writing.specs.Fields.{AcFields, rqGood, acGood}
-use Rattle.writing.specs.Wire.{ourUser, contextBody, answerBody, rqPdu, acPdu, associateBytes}
-use Rattle.writing.specs.Form.{rqForm, acForm, formRefusal, sentBytes}
+use Rattle.writing.specs.Wire.{contextBody, answerBody, rqPdu, acPdu}
+use Rattle.writing.specs.Form.{rqForm, acForm, formRefusal}
 use Rattle.writing.proofs.FormLaws.{refusal-0}
 use Rattle.sheet_room.proofs.Distinct.{odds-most}
 use Rattle.round_trips.specs.Trips.{rqRead}
@@ -41,9 +41,8 @@ use Rattle.round_trips.proofs.PduTrip.{associate-long}
 use Rattle.round_trips.proofs.Again.{rq-again-good, rq-again-short}
 use Rattle.round_trips.proofs.SentTrip.{sent-ac}
 use Rattle.choosing.specs.Choice.{Liked, siteIn, chosen, chosenFor}
-use Rattle.choosing.specs.Call.{chosenSheet, chooseRefusal, Chose}
+use Rattle.choosing.specs.Call.{chooseRefusal}
 use Rattle.choosing.specs.declared.Chosen.{Chosen}
-use Rattle.well_chosen.specs.Meaning.{OneOf}
 use Rattle.well_chosen.specs.Answering.{recordsIn, Bytes, Chain, responseOf, Answering}
 use Rattle.well_chosen.proofs.Meaning.{was-proposed}
 use Rattle.well_chosen.proofs.Written as written

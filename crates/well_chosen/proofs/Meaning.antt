@@ -1,21 +1,21 @@
 -- What is chosen is well chosen: no better-liked match exists, every name was proposed, and the answers may be sent.
 -- Assumes nothing.
-use Prim.Native.Nat.{ℕ, zero, suc, _+_, _*_, _/_, _≤_, _<_}
+use Prim.Native.Nat.{ℕ, zero, suc, _<_}
 use native.Mathlib.Omega.{arith}
 use native.Mathlib.Decide.{decLt}
-use mathlib.Core.Bool.{Bool, true, false, not, _&&_, _||_, cond}
-use mathlib.Core.List.{List, [], _∷_, _++_, map}
+use mathlib.Core.Bool.{Bool, true, false, _&&_, _||_, cond}
+use mathlib.Core.List.{List, [], _∷_, map}
 use mathlib.Core.Path.{_≡_, refl, sym, ap, _∙_}
 use mathlib.Core.Logic.{_⊎_, inl, inr}
-use lib.ListN.{length, take, drop, getD, length-append, length-map}
-use lib.Dec.{leb, eqb}
-use borrow.Author.Tests.{leb-true, le-leb, eq-eqb}
+use lib.ListN.{length, getD, length-map}
+use lib.Dec.{leb}
+use borrow.Author.Tests.{leb-true}
 use Rattle.laws.specs.Lists.{all, any, sameBytes, distinct}
 use Rattle.laws.proofs.Booleans.{held, holds, left-of, right-of, both-of}
 use Rattle.laws.proofs.Same.{same-equal, same-self}
 use Rattle.names.specs.Name.{nameOk}
 use Rattle.octets.specs.Octets.{odd}
-use Rattle.sheets.specs.Contexts.{Context, Answered, contextId, answeredId, contextOk, transferNameOk, answeredOk, contextsOk, allAnsweredOk}
+use Rattle.sheets.specs.Contexts.{Context, contextId, answeredId, contextOk, transferNameOk, answeredOk, contextsOk, allAnsweredOk}
 use Rattle.choosing.specs.Choice.{Liked, ACCEPTED, ABSTRACT-NOT-SUPPORTED, TRANSFER-NOT-SUPPORTED, sameAbstract, offers, matches, resultFor, firstProposed, transferFor, chosen, chosenFor}
 use Rattle.well_chosen.specs.Meaning.{OneOf, Matches, likedAt, Best, NoCommon, NotThere, WellChosen}
 

@@ -1,26 +1,26 @@
 -- What a call of `choose` leaves: refused, nothing changes; answered, a good answer sheet of the proposal's contexts, and nothing beyond it.
 -- Assumes nothing.
-use Prim.Native.Nat.{ℕ, _+_, _*_}
+use Prim.Native.Nat.{ℕ, _*_}
 use native.Mathlib.Omega.{arith}
 use mathlib.Core.Bool.{Bool, true, false, not, _&&_, cond}
-use mathlib.Core.List.{List, [], _∷_, _++_, map}
+use mathlib.Core.List.{List, [], _∷_, map}
 use mathlib.Core.Path.{_≡_, refl, sym, ap, _∙_}
 use lib.ListN.{length, take, drop, length-append, length-map}
 use lib.Dec.{leb, eqb}
 use borrow.Author.Tests.{eqb-true, eq-eqb, ne-eqb, not-false}
 use Rattle.laws.specs.Lists.{all}
-use Rattle.laws.proofs.Booleans.{held, left-of, right-of}
+use Rattle.laws.proofs.Booleans.{left-of, right-of}
 use Rattle.laws.proofs.Refusals.{not-due}
 use Rattle.octets.specs.Octets.{odd}
 use Rattle.octets.specs.Put.{front}
 use Rattle.octets.proofs.PutLaws.{front-start, front-behind}
 use Rattle.numbers.specs.Lengths.{RECORD}
-use Rattle.numbers.specs.Refusals.{NOT-REFUSED, SHORT-OUTPUT, BAD-CONTENTS}
-use Rattle.sheets.specs.Contexts.{Context, Answered, contextId, answeredId, transferNameOk, answeredOk, allAnsweredOk}
-use Rattle.sheets.specs.Sheet.{answerSheetOf, contextsIn, answersIn, proposalOk, answersOk, siteOk}
+use Rattle.numbers.specs.Refusals.{NOT-REFUSED, BAD-CONTENTS}
+use Rattle.sheets.specs.Contexts.{Answered, contextId, answeredId, transferNameOk, answeredOk, allAnsweredOk}
+use Rattle.sheets.specs.Sheet.{answerSheetOf, contextsIn, answersIn, proposalOk, answersOk}
 use Rattle.sheets.proofs.RecordLaws.{record-length}
 use Rattle.sheets.proofs.Inverse.{transfer-fits, proposal-contexts, answered-back, answered-answers}
-use Rattle.choosing.specs.Choice.{Liked, siteIn, chosen, chosenFor}
+use Rattle.choosing.specs.Choice.{siteIn, chosen, chosenFor}
 use Rattle.choosing.specs.Call.{chosenSheet, chooseRefusal, chosenOf, chosenBytes, Chose}
 use Rattle.choosing.specs.declared.Chosen.{Chosen}
 use Rattle.well_chosen.proofs.Meaning.{same-ids, all-good}

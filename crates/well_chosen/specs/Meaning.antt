@@ -1,7 +1,6 @@
 -- What a choice means, in its own words: "otherwise result 0 with the first site record that matches, so that no better-liked match exists".
 use Prim.Native.Nat.{ℕ, _<_}
 use mathlib.Core.Path.{_≡_}
-use mathlib.Core.Bool.{true, false}
 use mathlib.Core.List.{List, []}
 use mathlib.Core.Logic.{_⊎_}
 use lib.ListN.{length, getD}
