@@ -5,16 +5,16 @@ use native.Mathlib.Omega.{arith}
 use mathlib.Core.Bool.{Bool, true, false, not, cond}
 use mathlib.Core.List.{List, [], _∷_, _++_, map}
 use mathlib.Core.Path.{_≡_, refl, sym, ap, _∙_}
-use lib.ListN.{length, take, drop, length-append, length-drop}
+use lib.ListN.{length, take, drop, length-drop}
 use lib.Seq.{length-take-le}
 use lib.Dec.{ltb}
 use borrow.Author.Needs.{needs}
 use borrow.Author.Tests.{lt-ltb, le-ltb, not-true, not-false}
 use Rattle.numbers.specs.Lengths.{RECORD}
 use Rattle.numbers.specs.Refusals.{NOT-REFUSED, SHORT-OUTPUT, BAD-CONTENTS}
-use Rattle.octets.specs.Put.{put, front, Placed}
+use Rattle.octets.specs.Put.{front, Placed}
 use Rattle.octets.specs.Private.Put.{Put}
-use Rattle.octets.proofs.PutLaws.{put-put, put-length, put-none, put-front, placed-put}
+use Rattle.octets.proofs.PutLaws.{Putting, putting-start, putting-next, putting-done, put-front, placed-put}
 use Rattle.sheets.specs.Sheet.{transferOf, recordsOf, answerSheetOf, contextsIn, proposalOk, siteOk}
 use Rattle.sheets.proofs.RecordLaws.{transfer-most, record-length}
 use Rattle.sheets.proofs.RunLaws.{contexts-none}
@@ -59,23 +59,21 @@ rest-over : (s site : List ℕ) (at : ℕ) → length s ≤ at → restOf s site
 unfolding restOf answerSheetOf chosenFor
 rest-over s site at h = rw (contexts-none s at (omega arith))
 
-pub record Putting (o₀ s site o : List ℕ) (n at : ℕ) : Type 0 where
+pub record Reached (o₀ s site o : List ℕ) (n at : ℕ) : Type 0 where
   pub place : at % RECORD ≡ 0
   pub to : at ≤ length s
   pub room : n + RECORD * length (contextsIn (drop at s)) ≤ length o
-  pub long : length o ≡ length o₀
-  pub whole : put o₀ 0 (restOf s site 0) ≡ put o n (restOf s site at)
-  pub count : length (restOf s site 0) ≡ n + length (restOf s site at)
+  pub putting : Putting o₀ 0 (restOf s site 0) o n (restOf s site at)
 
-pub put-start : (o s site : List ℕ) → RECORD * length (contextsIn s) ≤ length o → Putting o s site o 0 0
-put-start o s site h = record { place = refl; to = omega arith; room = omega arith; long = refl; whole = refl; count = omega arith }
+pub put-start : (o s site : List ℕ) → RECORD * length (contextsIn s) ≤ length o → Reached o s site o 0 0
+put-start o s site h = record { place = refl; to = omega arith; room = omega arith; putting = putting-start o 0 (restOf s site 0) }
 
-module _ (o₀ s site o : List ℕ) (n at : ℕ) (v : Putting o₀ s site o n at) where
+module _ (o₀ s site o : List ℕ) (n at : ℕ) (v : Reached o₀ s site o n at) where
   pub put-place : at % RECORD ≡ 0
   put-place = v .place
 
   pub put-long : length o ≡ length o₀
-  put-long = v .long
+  put-long = v .putting .long
 
   module _ (e : ℕ) (r : Run s at e) where
     pub put-from : at ≤ e
@@ -100,33 +98,22 @@ module _ (o₀ s site o : List ℕ) (n at : ℕ) (v : Putting o₀ s site o n at
       pub put-whole : length a ≡ RECORD
       put-whole = ap length q ∙ answer-long (take (e - at) (drop at s)) site
 
-      pub put-next : (m : ℕ) (o′ : List ℕ) → Placed o n a m o′ → Putting o₀ s site o′ m e
+      pub put-next : (m : ℕ) (o′ : List ℕ) → Placed o n a m o′ → Reached o₀ s site o′ m e
       put-next m o′ p =
           let l = put-whole in
           let k = run-length s at e r in
           let w = v .room in
-          let c = v .count in
           let d = placed-put o n a p (omega arith) in
           let j = d .behind in
-          let h : length o′ ≡ length o = ap length (d .out) ∙ put-length o n a (omega arith) in
           let i : restOf s site at ≡ a ++ restOf s site e = rest-here s site at e r ∙ ap (λ (b : List ℕ). b ++ restOf s site e) (sym q) in
-          let f : length (restOf s site at) ≡ length a + length (restOf s site e) = ap length i ∙ length-append a (restOf s site e) in
-          record {
-            place = r .whole;
-            to = r .to;
-            room = omega arith;
-            long = h ∙ v .long;
-            whole = v .whole ∙ (ap (put o n) i ∙ (sym (put-put o n a (restOf s site e) (omega arith)) ∙ rw (d .out, j)));
-            count = omega arith;
-          }
+          let f = putting-next o₀ (restOf s site 0) o (restOf s site at) 0 n (v .putting) a (restOf s site e) o′ m i (omega arith) d in
+          let g = f .long in
+          let h = v .putting .long in
+          record { place = r .whole; to = r .to; room = omega arith; putting = f }
 
   pub put-done : length s ≤ at → Put o₀ 0 (chosenSheet s site) n o
   unfolding chosenSheet restOf
-  put-done h =
-      let z = rest-over s site at h in
-      let c = v .count in
-      let l = ap length z in
-      record { behind = omega arith; out = sym (v .whole ∙ (ap (put o n) z ∙ put-none o n)) }
+  put-done h = putting-done o₀ (restOf s site 0) o (restOf s site at) 0 n (v .putting) (rest-over s site at h)
 
 pub ruleset put-laws = (needs, put-start, put-place, put-long, put-from, put-to, put-run, put-records, put-less, put-whole, put-next, put-done)
 

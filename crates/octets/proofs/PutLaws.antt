@@ -87,6 +87,33 @@ module _ (o : List ℕ) (at : ℕ) (a b o₁ : List ℕ) (m : ℕ) (h : at + (le
       let w = placed-put o at a p (omega arith) in
       next-put w (placed-put o₁ m b q (next-room w))
 
+-- ---- a loop that puts parts one behind the other: o is o₀ with all that comes before place n, and the rest goes there
+pub record Putting (o₀ : List ℕ) (from : ℕ) (all o : List ℕ) (n : ℕ) (rest : List ℕ) : Type 0 where
+  pub whole : put o₀ from all ≡ put o n rest
+  pub count : from + length all ≡ n + length rest
+  pub long : length o ≡ length o₀
+
+pub putting-start : (o : List ℕ) (from : ℕ) (all : List ℕ) → Putting o from all o from all
+putting-start o from all = record { whole = refl; count = refl; long = refl }
+
+module _ (o₀ all o rest : List ℕ) (from n : ℕ) (w : Putting o₀ from all o n rest) where
+  pub putting-next : (a rest′ o′ : List ℕ) (n′ : ℕ) → rest ≡ a ++ rest′ → n + length a ≤ length o → Put o n a n′ o′ → Putting o₀ from all o′ n′ rest′
+  putting-next a rest′ o′ n′ e h q =
+      let l = ap length e ∙ length-append a rest′ in
+      let c = w .count in
+      let j = q .behind in
+      record {
+        whole = w .whole ∙ (ap (put o n) e ∙ (sym (put-put o n a rest′ h) ∙ rw (q .out, j)));
+        count = omega arith;
+        long = ap length (q .out) ∙ (put-length o n a h ∙ w .long);
+      }
+
+  pub putting-done : rest ≡ [] → Put o₀ from all n o
+  putting-done e =
+      let c = w .count in
+      let z = ap length e in
+      record { behind = omega arith; out = sym (w .whole ∙ (ap (put o n) e ∙ put-none o n)) }
+
 -- at the start
 pub put-front : (o bs : List ℕ) → put o 0 bs ≡ front o bs
 unfolding put front

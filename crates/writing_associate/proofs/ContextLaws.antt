@@ -9,9 +9,9 @@ use lib.ListN.{length, drop, getD, length-append}
 use borrow.Author.Needs.{needs}
 use borrow.Author.Tests.{le-leb, lt-leb}
 use Rattle.numbers.specs.Lengths.{LONGEST, RECORD}
-use Rattle.octets.specs.Put.{put, Placed}
+use Rattle.octets.specs.Put.{Placed}
 use Rattle.octets.specs.Private.Put.{Put}
-use Rattle.octets.proofs.PutLaws.{put-put, put-length, put-none, placed-put, put-nothing, next-room, next-put}
+use Rattle.octets.proofs.PutLaws.{Putting, putting-start, putting-next, putting-done, placed-put, put-nothing, next-room, next-put}
 use Rattle.items.specs.Wire.{itemBytes, itemsBytes}
 use Rattle.items.proofs.WireLaws.{item-length}
 use Rattle.sheets.specs.Contexts.{Context}
@@ -256,18 +256,19 @@ pub ruleset step-laws = (needs, step-room, step-put, step-small)
 
 -- ---- `put_contexts`
 pub record Writing (k : Bool) (s o₀ : List ℕ) (from : ℕ) (o : List ℕ) (n : ℕ) (g : Bool) (at : ℕ) : Type 0 where
-  pub whole : put o₀ from (contextBytes k false s 0) ≡ put o n (contextBytes k g s at)
-  pub count : from + length (contextBytes k false s 0) ≡ n + length (contextBytes k g s at)
+  pub putting : Putting o₀ from (contextBytes k false s 0) o n (contextBytes k g s at)
   pub small : length (contextBytes k g s at) ≤ LONGEST
   pub room : n + length (contextBytes k g s at) ≤ length o
-  pub long : length o ≡ length o₀
   pub place : at % RECORD ≡ 0
   pub to : at ≤ length s
 
 pub write-start : (k : Bool) (s o : List ℕ) (from : ℕ) → from + length (contextBytes k false s 0) ≤ length o → length (contextBytes k false s 0) ≤ LONGEST → Writing k s o from o from false 0
-write-start k s o from h m = record { whole = refl; count = refl; small = m; room = h; long = refl; place = refl; to = omega arith }
+write-start k s o from h m = record { putting = putting-start o from (contextBytes k false s 0); small = m; room = h; place = refl; to = omega arith }
 
 module _ (k : Bool) (s o₀ o : List ℕ) (from n at : ℕ) (g : Bool) (w : Writing k s o₀ from o n g at) where
+  pub write-long : length o ≡ length o₀
+  write-long = w .putting .long
+
   pub write-ready : length s % RECORD ≡ 0 → at < length s → Ready k g s at o n
   write-ready z h = record { here = (let p = w .place in omega arith); room = w .room; small = w .small }
 
@@ -277,26 +278,15 @@ module _ (k : Bool) (s o₀ o : List ℕ) (from n at : ℕ) (g : Bool) (w : Writ
       let sum : length (contextBytes k g s at) ≡ length (stepBytes k g s at) + length (contextBytes k b s (at + RECORD)) = step-sum k g s at here ∙ rw a in
       let room = w .room in
       let small = w .small in
-      let count = w .count in
       let place = w .place in
       let j = q .behind in
       let all : contextBytes k g s at ≡ stepBytes k g s at ++ contextBytes k b s (at + RECORD) = step-here k g s at here ∙ rw a in
-      let l : length o₂ ≡ length o = ap length (q .out) ∙ put-length o n (stepBytes k g s at) (omega arith) in
-      record {
-        whole = w .whole ∙ (ap (put o n) all ∙ (sym (put-put o n (stepBytes k g s at) (contextBytes k b s (at + RECORD)) (omega arith)) ∙ rw (q .out, j)));
-        count = omega arith;
-        small = omega arith;
-        room = omega arith;
-        long = l ∙ w .long;
-        place = omega arith;
-        to = here;
-      }
+      let f = putting-next o₀ (contextBytes k false s 0) o (contextBytes k g s at) from n (w .putting) (stepBytes k g s at) (contextBytes k b s (at + RECORD)) o₂ n′ all (omega arith) q in
+      let l = f .long in
+      let m = w .putting .long in
+      record { putting = f; small = omega arith; room = omega arith; place = omega arith; to = here }
 
   pub write-done : length s ≤ at → Put o₀ from (contextBytes k false s 0) n o
-  write-done h =
-      let e = contexts-over k g s at h in
-      let c = w .count in
-      let z = ap length e in
-      record { behind = omega arith; out = sym (w .whole ∙ (ap (put o n) e ∙ put-none o n)) }
+  write-done h = putting-done o₀ (contextBytes k false s 0) o (contextBytes k g s at) from n (w .putting) (contexts-over k g s at h)
 
-pub ruleset write-laws = (needs, write-start, write-ready, write-next, write-done)
+pub ruleset write-laws = (needs, write-start, write-long, write-ready, write-next, write-done)

@@ -2,12 +2,12 @@
 -- Assumes nothing.
 use Prim.Native.Nat.{_-_}
 use lib.ListN.{length}
-use Rattle.choosing.proofs.CallLaws.{Putting, put-laws}
+use Rattle.choosing.proofs.CallLaws.{Reached, put-laws}
 use Rattle.choosing.proofs.put_answers.Statement.{statement}
 use Rattle.choosing.proofs.put_answers.Tie as tie
 
 abbrev Inv-loop : tie.InvT-loop
-Inv-loop answer₀ proposal site n₀ at₀ answer n at = Putting answer₀ proposal site answer n at
+Inv-loop answer₀ proposal site n₀ at₀ answer n at = Reached answer₀ proposal site answer n at
 
 abbrev μ-loop : tie.MeasureT-loop
 μ-loop answer₀ proposal site n₀ at₀ answer n at = length proposal - at
