@@ -436,14 +436,14 @@ static inline uint8_t feo_title_known(const uint8_t *own, size_t own_len, const 
 }
 
 /*
- * Chooses the answer to a proposal and fills it from its start, a record for each context, in the proposal's order: result 0 with
- * the transfer name of the first site record that has the context's abstract name and one of its transfer names; where there is
- * none, its first proposed transfer name, with result 3 where its abstract name is on no site record, else 4. FEO_ANSWER_ROOM is
- * always enough.
+ * Chooses the answer to a proposal and fills answer from its start, a record for each context, in the proposal's order; *records
+ * is how many. Result 0 with the transfer name of the first site record that has the context's abstract name and one of its
+ * transfer names; where there is none, its first proposed transfer name, with result 3 where its abstract name is on no site
+ * record, else 4. site: one or more records, best liked first, ID and result 0, names as in a proposal.
  *
- * site: one or more records, best liked first, ID and result 0, names as in a proposal. What feo_read_request filled is never
- * refused: a 4 behind it is the site's. feo_choose, and then feo_accept, is given FEO_RECORD_LEN times the records of the call
- * before, not its buffer's length.
+ * Refused by 4 for either bad sheet, then by 2 where answer has less than FEO_RECORD_LEN for each context; FEO_ANSWER_ROOM is
+ * always enough. What feo_read_request filled is never refused: a 4 behind it is the site's. feo_choose, and then feo_accept, is
+ * given FEO_RECORD_LEN times the records of the call before, not its buffer's length.
  */
 static inline uint8_t feo_choose(
     const uint8_t *proposal, size_t proposal_len, const uint8_t *site, size_t site_len, uint8_t *answer, size_t answer_len,

@@ -15,34 +15,34 @@ use Rattle.sheets.specs.Sheet.{transferOf, recordsOf}
 use Rattle.sheets.specs.Record.{recordOf, recordAt, abstractAt, transferAt}
 use Rattle.sheets.proofs.RecordLaws.{abstract-here, transfer-here, transfer-short, record-whole}
 use Rattle.sheets.proofs.RunLaws.{record-here, records-none}
-use Rattle.choosing.specs.Choice.{Liked, ACCEPTED, ABSTRACT-NOT-SUPPORTED, TRANSFER-NOT-SUPPORTED, likedOf, siteIn, sameAbstract, offers, matches, resultFor, firstProposed, transferFor, chosen}
-use Rattle.choosing.specs.Private.Runs.{runContext, resultFrom, answerRecord}
+use Rattle.choosing.specs.Choice.{Liked, ACCEPTED, ABSTRACT-NOT-SUPPORTED, TRANSFER-NOT-SUPPORTED, likedOf, siteIn, sameAbstract, wasProposed, matches, resultFor, firstProposed, transferFor, chosen}
+use Rattle.choosing.specs.Private.Runs.{runContext, resultFrom, answerBytes}
 
--- ---- `offered`: what the transfer names from `at` on say
-unfoldable pub offersFrom : List ℕ → List ℕ → ℕ → Bool
-offersFrom run x at = any (sameBytes x) (map transferOf (recordsOf (drop at run)))
+-- ---- `was_proposed`: what the transfer names from `at` on say
+unfoldable pub proposedFrom : List ℕ → List ℕ → ℕ → Bool
+proposedFrom run x at = any (sameBytes x) (map transferOf (recordsOf (drop at run)))
 
-pub offer-start : (run x : List ℕ) → offers (runContext run) x ≡ offersFrom run x 0
-unfolding offers runContext offersFrom
-offer-start run x = refl
+pub proposed-start : (run x : List ℕ) → wasProposed (runContext run) x ≡ proposedFrom run x 0
+unfolding wasProposed runContext proposedFrom
+proposed-start run x = refl
 
-module _ (run x : List ℕ) (at : ℕ) (all : Bool) (v : all ≡ offersFrom run x at) (w : length run % RECORD ≡ 0) (z : at % RECORD ≡ 0) where
-  offer-here : at < length run → offersFrom run x at ≡ (sameBytes x (transferAt run at) || offersFrom run x (at + RECORD))
-  unfolding offersFrom
-  offer-here h = rw (record-here run at (omega arith), transfer-here run at (omega arith))
+module _ (run x : List ℕ) (at : ℕ) (all : Bool) (v : all ≡ proposedFrom run x at) (w : length run % RECORD ≡ 0) (z : at % RECORD ≡ 0) where
+  proposed-here : at < length run → proposedFrom run x at ≡ (sameBytes x (transferAt run at) || proposedFrom run x (at + RECORD))
+  unfolding proposedFrom
+  proposed-here h = rw (record-here run at (omega arith), transfer-here run at (omega arith))
 
   module _ (y : List ℕ) (b : Bool) (h : at < length run) (e : y ≡ transferAt run at) (q : b ≡ sameBytes x y) where
-    pub offer-yes : b ≡ true → true ≡ all
-    offer-yes t = sym (v ∙ (offer-here h ∙ rw (← e, ← q, t)))
+    pub proposed-yes : b ≡ true → true ≡ all
+    proposed-yes t = sym (v ∙ (proposed-here h ∙ rw (← e, ← q, t)))
 
-    pub offer-next : b ≡ false → all ≡ offersFrom run x (at + RECORD)
-    offer-next t = v ∙ (offer-here h ∙ rw (← e, ← q, t))
+    pub proposed-next : b ≡ false → all ≡ proposedFrom run x (at + RECORD)
+    proposed-next t = v ∙ (proposed-here h ∙ rw (← e, ← q, t))
 
-  pub offer-done : length run ≤ at → false ≡ all
-  unfolding offersFrom
-  offer-done h = sym (v ∙ rw (records-none (drop at run) (omega (arith, length-drop at run))))
+  pub proposed-done : length run ≤ at → false ≡ all
+  unfolding proposedFrom
+  proposed-done h = sym (v ∙ rw (records-none (drop at run) (omega (arith, length-drop at run))))
 
-pub ruleset offer-laws = (needs, offer-start, offer-yes, offer-next, offer-done)
+pub ruleset proposed-laws = (needs, proposed-start, proposed-yes, proposed-next, proposed-done)
 
 -- ---- `result_at`
 module _ (run site : List ℕ) (at before : ℕ) (h : at + RECORD ≤ length site) (a d : List ℕ) (b : Bool) (e : a ≡ abstractAt site at) (f : d ≡ abstractAt run 0) (q : b ≡ sameBytes a d) where
@@ -54,18 +54,18 @@ module _ (run site : List ℕ) (at before : ℕ) (h : at + RECORD ≤ length sit
   unfolding resultFrom matches
   result-other t = rw (same-is, not-true b t)
 
-  module _ (x : List ℕ) (g : Bool) (t : not b ≡ false) (y : x ≡ transferAt site at) (p : g ≡ offers (runContext run) x) where
-    offered-is : offers (runContext run) (likedOf (recordAt site at) .transfer) ≡ g
+  module _ (x : List ℕ) (g : Bool) (t : not b ≡ false) (y : x ≡ transferAt site at) (p : g ≡ wasProposed (runContext run) x) where
+    proposed-is : wasProposed (runContext run) (likedOf (recordAt site at) .transfer) ≡ g
     unfolding likedOf
-    offered-is = sym (p ∙ rw (y, transfer-here site at h))
+    proposed-is = sym (p ∙ rw (y, transfer-here site at h))
 
     pub result-match : g ≡ true → ACCEPTED ≡ resultFrom before (runContext run) (likedOf (recordAt site at) ∷ [])
     unfolding resultFrom matches
-    result-match u = rw (same-is, not-false b t, offered-is, u)
+    result-match u = rw (same-is, not-false b t, proposed-is, u)
 
     pub result-none : g ≡ false → TRANSFER-NOT-SUPPORTED ≡ resultFrom before (runContext run) (likedOf (recordAt site at) ∷ [])
     unfolding resultFrom matches
-    result-none u = rw (same-is, not-false b t, offered-is, u)
+    result-none u = rw (same-is, not-false b t, proposed-is, u)
 
 pub ruleset result-laws = (needs, result-other, result-match, result-none)
 
@@ -140,16 +140,16 @@ module _ (run site : List ℕ) (before at : ℕ) (v : Looking run site before at
           same-transfer = v .same-transfer ∙ rw (site-here site at (look-here h), m);
         }
 
-    pub look-found : (x o : List ℕ) → r ≡ ACCEPTED → x ≡ transferAt site at → o ≡ recordOf (getD run 0 0) ACCEPTED (take (0 - 0) (drop 0 run)) x → o ≡ answerRecord (chosen (siteIn site) (runContext run))
-    unfolding answerRecord chosen resultFrom transferFor runContext likedOf
+    pub look-found : (x o : List ℕ) → r ≡ ACCEPTED → x ≡ transferAt site at → o ≡ recordOf (getD run 0 0) ACCEPTED (take (0 - 0) (drop 0 run)) x → o ≡ answerBytes (chosen (siteIn site) (runContext run))
+    unfolding answerBytes chosen resultFrom transferFor runContext likedOf
     look-found x o z y p =
         let m = matched before (runContext run) (likedOf (recordAt site at)) (siteIn (drop (at + RECORD) site)) r e (v .none-yet) z in
         let i : resultFor (runContext run) (siteIn site) ≡ ACCEPTED = v .same-result ∙ rw (site-here site at (look-here h), m) in
         let t : transferFor (runContext run) (siteIn site) ≡ transferAt site at = v .same-transfer ∙ rw (site-here site at (look-here h), m, transfer-here site at (look-here h)) in
         p ∙ (rw (y, record-whole (getD run 0 0) ACCEPTED [] (transferAt site at) (omega arith) (transfer-short site at), i, t))
 
-  pub look-none : (x o : List ℕ) → length site ≤ at → RECORD ≤ length run → x ≡ transferAt run 0 → o ≡ recordOf (getD run 0 0) before (take (0 - 0) (drop 0 run)) x → o ≡ answerRecord (chosen (siteIn site) (runContext run))
-  unfolding answerRecord chosen resultFrom transferFor firstProposed runContext
+  pub look-none : (x o : List ℕ) → length site ≤ at → RECORD ≤ length run → x ≡ transferAt run 0 → o ≡ recordOf (getD run 0 0) before (take (0 - 0) (drop 0 run)) x → o ≡ answerBytes (chosen (siteIn site) (runContext run))
+  unfolding answerBytes chosen resultFrom transferFor firstProposed runContext
   look-none x o h l y p =
       let i : resultFor (runContext run) (siteIn site) ≡ before = v .same-result ∙ rw (site-none site at h) in
       let t : transferFor (runContext run) (siteIn site) ≡ transferAt run 0 = v .same-transfer ∙ rw (site-none site at h, record-here run 0 (omega arith), transfer-here run 0 (omega arith)) in

@@ -22,7 +22,7 @@ use Rattle.sheets.proofs.Inverse.{proposal-whole, site-whole}
 use Rattle.choosing.specs.Choice.{likedOf, siteIn, matches, firstProposed, transferFor, chosen, chosenFor}
 use Rattle.choosing.specs.Call.{chosenSheet, chooseRefusal, noneChosen, chosenOf, chosenBytes, Chose}
 use Rattle.choosing.specs.declared.Chosen.{Chosen}
-use Rattle.choosing.specs.Private.Runs.{runContext, Run, answerRecord}
+use Rattle.choosing.specs.Private.Runs.{runContext, Run, answerBytes}
 use Rattle.choosing.proofs.RunLaws.{run-length}
 
 -- ---- the record of an answer has its 132 bytes, since the name of any record fits its field
@@ -40,8 +40,8 @@ chosen-most run (r ∷ rs) = go (matches (runContext run) (likedOf r)) (chosen-m
     go true k = transfer-most r
     go false k = k
 
-pub answer-long : (run site : List ℕ) → length (answerRecord (chosen (siteIn site) (runContext run))) ≡ RECORD
-unfolding answerRecord chosen siteIn
+pub answer-long : (run site : List ℕ) → length (answerBytes (chosen (siteIn site) (runContext run))) ≡ RECORD
+unfolding answerBytes chosen siteIn
 answer-long run site = record-length _ _ [] _ (omega arith) (chosen-most run (recordsOf site))
 
 -- ---- `put_answers`: the answers from `at` on
@@ -49,10 +49,10 @@ unfoldable pub restOf : List ℕ → List ℕ → ℕ → List ℕ
 restOf s site at = answerSheetOf (chosenFor (siteIn site) (contextsIn (drop at s)))
 
 abbrev answerAt : List ℕ → List ℕ → ℕ → ℕ → List ℕ
-answerAt s site at e = answerRecord (chosen (siteIn site) (runContext (take (e - at) (drop at s))))
+answerAt s site at e = answerBytes (chosen (siteIn site) (runContext (take (e - at) (drop at s))))
 
 rest-here : (s site : List ℕ) (at e : ℕ) → Run s at e → restOf s site at ≡ answerAt s site at e ++ restOf s site e
-unfolding restOf answerSheetOf chosenFor answerRecord
+unfolding restOf answerSheetOf chosenFor answerBytes
 rest-here s site at e r = rw (r .first)
 
 rest-over : (s site : List ℕ) (at : ℕ) → length s ≤ at → restOf s site at ≡ []
@@ -94,7 +94,7 @@ module _ (o₀ s site o : List ℕ) (n at : ℕ) (v : Reached o₀ s site o n at
     pub put-less : length s - e < length s - at
     put-less = let m = r .some in let t = r .to in omega arith
 
-    module _ (a : List ℕ) (q : a ≡ answerRecord (chosen (siteIn site) (runContext (take (e - at) (drop at s))))) where
+    module _ (a : List ℕ) (q : a ≡ answerBytes (chosen (siteIn site) (runContext (take (e - at) (drop at s))))) where
       pub put-whole : length a ≡ RECORD
       put-whole = ap length q ∙ answer-long (take (e - at) (drop at s)) site
 

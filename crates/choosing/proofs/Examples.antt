@@ -7,20 +7,20 @@ use lib.ListN.{take}
 use Rattle.laws.specs.Text.{bytes}
 use Rattle.sheets.specs.Sheet.{recordBytes, answerSheetOf, siteRecord, siteOk}
 use Rattle.sheets.proofs.Examples.{sheets-open}
-use Rattle.choosing.specs.Choice.{likedOf, siteIn, sameAbstract, offers, matches, resultFor, firstProposed, transferFor, chosen, chosenFor}
+use Rattle.choosing.specs.Choice.{likedOf, siteIn, sameAbstract, wasProposed, matches, resultFor, firstProposed, transferFor, chosen, chosenFor}
 use Rattle.choosing.specs.Call.{chosenSheet, chooseRefusal}
 
 -- what the definitions of choosing compute with, by one name for an `unfolding` line
 unfoldable choosing-open : Unit {0}
-unfolding sheets-open siteRecord siteOk answerSheetOf likedOf siteIn sameAbstract offers matches resultFor firstProposed transferFor chosen chosenFor chosenSheet chooseRefusal
+unfolding sheets-open siteRecord siteOk answerSheetOf likedOf siteIn sameAbstract wasProposed matches resultFor firstProposed transferFor chosen chosenFor chosenSheet chooseRefusal
 choosing-open = tt
 
-abbrev equine : List ℕ
-equine = bytes "1.2.840.10008.5.1.4.1.1.1"
+abbrev cr-image : List ℕ
+cr-image = bytes "1.2.840.10008.5.1.4.1.1.1"
 
 -- goes on where the name before it ends
-abbrev equine-too : List ℕ
-equine-too = bytes "1.2.840.10008.5.1.4.1.1.1.1"
+abbrev digital-x-ray : List ℕ
+digital-x-ray = bytes "1.2.840.10008.5.1.4.1.1.1.1"
 
 abbrev implicit : List ℕ
 implicit = bytes "1.2.840.10008.1.2"
@@ -33,42 +33,42 @@ jpeg = bytes "1.2.840.10008.1.2.4.50"
 
 -- implicit, then explicit, for one context
 abbrev proposal : List ℕ
-proposal = recordBytes 1 0 equine implicit ++ recordBytes 1 0 equine explicit
+proposal = recordBytes 1 0 cr-image implicit ++ recordBytes 1 0 cr-image explicit
 
 -- the site's order decides, not the proposal's
-pub site-order : chosenSheet proposal (recordBytes 0 0 equine explicit ++ recordBytes 0 0 equine implicit) ≡ recordBytes 1 0 [] explicit
+pub site-order : chosenSheet proposal (recordBytes 0 0 cr-image explicit ++ recordBytes 0 0 cr-image implicit) ≡ recordBytes 1 0 [] explicit
 unfolding choosing-open
 site-order = refl
 
 -- a better-liked name that was not proposed is passed
-pub not-proposed : chosenSheet proposal (recordBytes 0 0 equine jpeg ++ recordBytes 0 0 equine explicit) ≡ recordBytes 1 0 [] explicit
+pub not-proposed : chosenSheet proposal (recordBytes 0 0 cr-image jpeg ++ recordBytes 0 0 cr-image explicit) ≡ recordBytes 1 0 [] explicit
 unfolding choosing-open
 not-proposed = refl
 
 -- no common transfer name: 4; the abstract name on no record: 3. Both carry the first proposed transfer name
-pub no-common-name : chosenSheet proposal (recordBytes 0 0 equine jpeg ++ recordBytes 0 0 equine-too implicit) ≡ recordBytes 1 4 [] implicit
+pub no-common-name : chosenSheet proposal (recordBytes 0 0 cr-image jpeg ++ recordBytes 0 0 digital-x-ray implicit) ≡ recordBytes 1 4 [] implicit
 unfolding choosing-open
 no-common-name = refl
 
-pub no-abstract-name : chosenSheet proposal (recordBytes 0 0 equine-too implicit) ≡ recordBytes 1 3 [] implicit
+pub no-abstract-name : chosenSheet proposal (recordBytes 0 0 digital-x-ray implicit) ≡ recordBytes 1 3 [] implicit
 unfolding choosing-open
 no-abstract-name = refl
 
 -- two contexts of one abstract name stay two, each with its own answer
-pub two-contexts : chosenSheet (recordBytes 5 0 equine explicit ++ recordBytes 3 0 equine jpeg) (recordBytes 0 0 equine explicit) ≡ recordBytes 5 0 [] explicit ++ recordBytes 3 4 [] jpeg
+pub two-contexts : chosenSheet (recordBytes 5 0 cr-image explicit ++ recordBytes 3 0 cr-image jpeg) (recordBytes 0 0 cr-image explicit) ≡ recordBytes 5 0 [] explicit ++ recordBytes 3 4 [] jpeg
 unfolding choosing-open
 two-contexts = refl
 
 -- room for one context is enough for two records of it; a byte less is not; a bad site's sheet is told before that
-pub exact-room : chooseRefusal proposal (recordBytes 0 0 equine implicit) 132 ≡ 0
+pub exact-room : chooseRefusal proposal (recordBytes 0 0 cr-image implicit) 132 ≡ 0
 unfolding choosing-open
 exact-room = refl
 
-pub byte-less : chooseRefusal proposal (recordBytes 0 0 equine implicit) 131 ≡ 2
+pub byte-less : chooseRefusal proposal (recordBytes 0 0 cr-image implicit) 131 ≡ 2
 unfolding choosing-open
 byte-less = refl
 
-pub bad-before-short : chooseRefusal proposal (recordBytes 0 3 equine implicit) 0 ≡ 4
+pub bad-before-short : chooseRefusal proposal (recordBytes 0 3 cr-image implicit) 0 ≡ 4
 unfolding choosing-open
 bad-before-short = refl
 
@@ -77,18 +77,18 @@ pub site-none : chooseRefusal proposal [] 132 ≡ 4
 unfolding choosing-open
 site-none = refl
 
-pub site-part : chooseRefusal proposal (recordBytes 0 0 equine implicit ++ (0 ∷ [])) 132 ≡ 4
+pub site-part : chooseRefusal proposal (recordBytes 0 0 cr-image implicit ++ (0 ∷ [])) 132 ≡ 4
 unfolding choosing-open
 site-part = refl
 
-pub site-id : chooseRefusal proposal (recordBytes 1 0 equine implicit) 132 ≡ 4
+pub site-id : chooseRefusal proposal (recordBytes 1 0 cr-image implicit) 132 ≡ 4
 unfolding choosing-open
 site-id = refl
 
-pub site-unused : chooseRefusal proposal (take 131 (recordBytes 0 0 equine implicit) ++ (7 ∷ [])) 132 ≡ 4
+pub site-unused : chooseRefusal proposal (take 131 (recordBytes 0 0 cr-image implicit) ++ (7 ∷ [])) 132 ≡ 4
 unfolding choosing-open
 site-unused = refl
 
-pub site-again : chooseRefusal proposal (recordBytes 0 0 equine implicit ++ recordBytes 0 0 equine implicit) 132 ≡ 0
+pub site-again : chooseRefusal proposal (recordBytes 0 0 cr-image implicit ++ recordBytes 0 0 cr-image implicit) 132 ≡ 0
 unfolding choosing-open
 site-again = refl

@@ -42,7 +42,7 @@ chosenOf proposal site room =
 unfoldable pub chosenBytes : List ℕ → List ℕ → ℕ → List ℕ
 chosenBytes proposal site room = cond (eqb (chooseRefusal proposal site room) NOT-REFUSED) (chosenSheet proposal site) []
 
--- the answers were chosen into the sheet o, which is now o′, and r was answered
+-- the call was made with the sheet o lent, which is now o′, and r was answered
 pub record Chose (proposal site o : List ℕ) (r : Chosen) (o′ : List ℕ) : Type 0 where
   pub answer : r ≡ chosenOf proposal site (length o)
   pub sheet : o′ ≡ front o (chosenBytes proposal site (length o))

@@ -39,12 +39,12 @@ unfoldable pub sameAbstract : Context → Liked → Bool
 sameAbstract c w = sameBytes (w .abstr) (c .abstr)
 
 -- the transfer name x was proposed for the context
-unfoldable pub offers : Context → List ℕ → Bool
-offers c x = any (sameBytes x) (c .transfers)
+unfoldable pub wasProposed : Context → List ℕ → Bool
+wasProposed c x = any (sameBytes x) (c .transfers)
 
 -- the record matches: its abstract name is the context's, and its transfer name was proposed for it
 unfoldable pub matches : Context → Liked → Bool
-matches c w = sameAbstract c w && offers c (w .transfer)
+matches c w = sameAbstract c w && wasProposed c (w .transfer)
 
 unfoldable pub resultFor : Context → List Liked → ℕ
 resultFor c ws = cond (any (matches c) ws) ACCEPTED (cond (any (sameAbstract c) ws) TRANSFER-NOT-SUPPORTED ABSTRACT-NOT-SUPPORTED)

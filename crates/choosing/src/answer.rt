@@ -5,8 +5,8 @@ ghost use Prim.Native.Nat.{_+_, _%_, _≤_};
 ghost use lib.ListN.{length};
 ghost use Rattle.numbers.specs.Lengths.{RECORD};
 ghost use Rattle.sheets.specs.Record.{recordAt};
-ghost use Rattle.choosing.specs.Choice.{likedOf, siteIn, offers, chosen};
-ghost use Rattle.choosing.specs.Private.Runs.{runContext, resultFrom, answerRecord};
+ghost use Rattle.choosing.specs.Choice.{likedOf, siteIn, wasProposed, chosen};
+ghost use Rattle.choosing.specs.Private.Runs.{runContext, resultFrom, answerBytes};
 
 // The results that are given.
 pub const ACCEPTED: u8 = 0;
@@ -16,9 +16,9 @@ pub const ABSTRACT_NOT_SUPPORTED: u8 = 3;
 pub const TRANSFER_NOT_SUPPORTED: u8 = 4;
 
 // Whether the transfer name was proposed for the context.
-fn offered(run: &[u8], x: &[u8]) -> bool
+fn was_proposed(run: &[u8], x: &[u8]) -> bool
     requires { ⌜ length (now run) % RECORD ≡ 0 ⌝ }
-    ensures { λ r. ⌜ r ≡ offers (runContext (now (run .entry))) (now (x .entry)) ⌝ }
+    ensures { λ r. ⌜ r ≡ wasProposed (runContext (now (run .entry))) (now (x .entry)) ⌝ }
 {
     let mut at = 0;
     while at < run.len() {
@@ -38,7 +38,7 @@ fn result_at(run: &[u8], site: &[u8], at: usize, before: u8) -> u8
     if !octets::same_bytes(sheets::abstract_at(site, at), sheets::abstract_at(run, 0)) {
         return before;
     }
-    if offered(run, sheets::transfer_at(site, at)) {
+    if was_proposed(run, sheets::transfer_at(site, at)) {
         return ACCEPTED;
     }
     TRANSFER_NOT_SUPPORTED
@@ -47,7 +47,7 @@ fn result_at(run: &[u8], site: &[u8], at: usize, before: u8) -> u8
 // Goes over the site's records, once, to the first that matches.
 pub(crate) fn answer_to(run: &[u8], site: &[u8]) -> [u8; numbers::RECORD]
     requires { ⌜ (RECORD ≤ length (now run)) × (length (now run) % RECORD ≡ 0) × (length (now site) % RECORD ≡ 0) ⌝ }
-    ensures { λ r. ⌜ r ≡ answerRecord (chosen (siteIn (now (site .entry))) (runContext (now (run .entry)))) ⌝ }
+    ensures { λ r. ⌜ r ≡ answerBytes (chosen (siteIn (now (site .entry))) (runContext (now (run .entry)))) ⌝ }
 {
     let mut result = ABSTRACT_NOT_SUPPORTED;
     let mut at = 0;

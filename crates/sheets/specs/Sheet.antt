@@ -101,10 +101,11 @@ fieldOk n f = leb n 64 && all zero? (drop n f)
 unfoldable pub fieldsOk : List ℕ → Bool
 fieldsOk r = fieldOk (getD r 2 0) (take 64 (drop 4 r)) && fieldOk (getD r 3 0) (drop 68 r)
 
--- "result (0 in a proposal)"
+-- "result (0 in a proposal)", and on a site's sheet
 unfoldable pub proposes : List ℕ → Bool
 proposes r = eqb (getD r 1 0) 0 && fieldsOk r
 
+-- "names as in a proposal"
 abbrev pub named : List ℕ → Bool
 named r = nameOk (abstractOf r) && nameOk (transferOf r)
 

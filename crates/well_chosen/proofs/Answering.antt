@@ -135,7 +135,7 @@ module _ (pdu sheet : List ℕ) (f : Associate) (sheet′ : List ℕ) (w : Read 
       let e : RECORD * f .records ≡ length (sheetIn ASSOCIATE-RQ pdu) = omega arith in
       rw (filled-with, e) (front-start sheet (sheetIn ASSOCIATE-RQ pdu))
 
-  -- "A bad proposal": what is read from a valid RQ never is
+  -- what is read from a valid RQ is never a bad proposal
   pub read-never-bad : proposalOk (recordsIn (f .records) sheet′) ≡ true
   read-never-bad = ap proposalOk read-given-on ∙ request-sheet-good pdu is-request
 

@@ -15,9 +15,9 @@ use Rattle.laws.proofs.Booleans.{held, holds, left-of, right-of, both-of}
 use Rattle.laws.proofs.Same.{same-equal, same-self}
 use Rattle.names.specs.Name.{nameOk}
 use Rattle.octets.specs.Octets.{odd}
-use Rattle.sheets.specs.Contexts.{Context, contextId, answeredId, contextOk, transferNameOk, answeredOk, contextsOk, allAnsweredOk}
-use Rattle.choosing.specs.Choice.{Liked, ACCEPTED, ABSTRACT-NOT-SUPPORTED, TRANSFER-NOT-SUPPORTED, sameAbstract, offers, matches, resultFor, firstProposed, transferFor, chosen, chosenFor}
-use Rattle.well_chosen.specs.Meaning.{OneOf, Matches, likedAt, Best, NoCommon, NotThere, WellChosen}
+use Rattle.sheets.specs.Contexts.{Context, Answered, contextId, answeredId, contextOk, transferNameOk, answeredOk, contextsOk, allAnsweredOk}
+use Rattle.choosing.specs.Choice.{Liked, ACCEPTED, ABSTRACT-NOT-SUPPORTED, TRANSFER-NOT-SUPPORTED, sameAbstract, wasProposed, matches, resultFor, firstProposed, transferFor, chosen, chosenFor}
+use Rattle.well_chosen.specs.Meaning.{OneOf, Matches, likedAt, Best, NoCommon, NotThere, WellChosen, ShutOut}
 
 -- ---- the tests say what their words say
 one-of : (x : List ℕ) (xs : List (List ℕ)) → any (sameBytes x) xs ≡ true → OneOf x xs
@@ -37,16 +37,16 @@ one-of-back x (y ∷ ys) (suc k) h e = rw (one-of-back x ys k (omega arith) e) (
     or-yes true = refl
     or-yes false = refl
 
-pub offers-means : (c : Context) (x : List ℕ) → offers c x ≡ true → OneOf x (c .transfers)
-unfolding offers
-offers-means c x e = one-of x (c .transfers) e
+pub proposed-means : (c : Context) (x : List ℕ) → wasProposed c x ≡ true → OneOf x (c .transfers)
+unfolding wasProposed
+proposed-means c x e = one-of x (c .transfers) e
 
 pub matches-means : (c : Context) (w : Liked) → matches c w ≡ true → Matches c w
-unfolding matches sameAbstract offers
+unfolding matches sameAbstract wasProposed
 matches-means c w e =
     record {
-      abstract-name = same-equal _ _ (held _ (left-of (sameBytes (w .abstr) (c .abstr)) (offers c (w .transfer)) e));
-      transfer-name = one-of (w .transfer) (c .transfers) (right-of (sameBytes (w .abstr) (c .abstr)) (offers c (w .transfer)) e);
+      abstract-name = same-equal _ _ (held _ (left-of (sameBytes (w .abstr) (c .abstr)) (wasProposed c (w .transfer)) e));
+      transfer-name = one-of (w .transfer) (c .transfers) (right-of (sameBytes (w .abstr) (c .abstr)) (wasProposed c (w .transfer)) e);
     }
 
 same-back : (c : Context) (w : Liked) → w .abstr ≡ c .abstr → sameAbstract c w ≡ true
@@ -54,7 +54,7 @@ unfolding sameAbstract
 same-back c w e = ap (λ (z : List ℕ). sameBytes z (c .abstr)) e ∙ holds (sameBytes (c .abstr) (c .abstr)) (same-self (c .abstr))
 
 matches-back : (c : Context) (w : Liked) → Matches c w → matches c w ≡ true
-unfolding matches offers
+unfolding matches wasProposed
 matches-back c w m = both-of _ _ (same-back c w (m .abstract-name)) (let o = m .transfer-name in one-of-back (w .transfer) (c .transfers) (o .place) (o .there) (o .same))
 
 -- ---- a record at a place that passes a test, or none
@@ -156,35 +156,91 @@ module _ (c : Context) (ws : List Liked) where
       go false true p q = inr (inl (by-result false true p q))
       go false false p q = inr (inr (by-result false false p q))
 
-  best-only : (x y : List ℕ) → Best ws c x → Best ws c y → x ≡ y
-  best-only x y a b = go (decLt (a .place) (b .place)) (decLt (b .place) (a .place))
+  -- and back
+  best-so : (x : List ℕ) → Best ws c x → any (matches c) ws ≡ true
+  best-so x o = any-at (matches c) ws (o .place) (o .there) (matches-back c (likedAt ws (o .place)) (o .matching))
+
+  -- the best name is the one that is found
+  best-name : (x : List ℕ) → Best ws c x → transferFor c ws ≡ x
+  best-name x o = let f = best c ws (best-so x o) in go f (decLt (f .place) (o .place)) (decLt (o .place) (f .place))
     where
-      go : Dec (a .place < b .place) → Dec (b .place < a .place) → x ≡ y
-      go (yes h) d = absurd (b .none-better (a .place) h (a .matching))
-      go (no h) (yes l) = absurd (a .none-better (b .place) l (b .matching))
-      go (no h) (no l) =
-          let e : a .place ≡ b .place = omega arith in
-          sym (a .name) ∙ (ap (λ (k : ℕ). likedAt ws k .transfer) e ∙ b .name)
+      go : (f : Best ws c (transferFor c ws)) → Dec (f .place < o .place) → Dec (o .place < f .place) → transferFor c ws ≡ x
+      go f (yes h) d = absurd (o .none-better (f .place) h (f .matching))
+      go f (no h) (yes l) = absurd (f .none-better (o .place) l (o .matching))
+      go f (no h) (no l) =
+          let e : f .place ≡ o .place = omega arith in
+          sym (f .name) ∙ (ap (λ (k : ℕ). likedAt ws k .transfer) e ∙ o .name)
+
+  none-so : ((k : ℕ) → k < length ws → Matches c (likedAt ws k) → ⊥) → any (matches c) ws ≡ false
+  none-so f = go (any (matches c) ws) refl
+    where
+      go : (d : Bool) → any (matches c) ws ≡ d → d ≡ false
+      go true e = let o = some-at (matches c) ws e in absurd (f (o .0) (o .1 .0) (matches-means c (likedAt ws (o .0)) (o .1 .1)))
+      go false e = refl
+
+  no-common-so : NoCommon ws c → resultFor c ws ≡ TRANSFER-NOT-SUPPORTED
+  no-common-so n = by-result false true (none-so (n .none)) (any-at (sameAbstract c) ws (n .place) (n .there) (same-back c (likedAt ws (n .place)) (n .abstract-name)))
+
+  not-there-so : NotThere ws c → resultFor c ws ≡ ABSTRACT-NOT-SUPPORTED
+  unfolding sameAbstract
+  not-there-so n = by-result false false (none-so (λ k h m. n k h (m .abstract-name))) (go (any (sameAbstract c) ws) refl)
+    where
+      go : (d : Bool) → any (sameAbstract c) ws ≡ d → d ≡ false
+      go true e = let o = some-at (sameAbstract c) ws e in absurd (n (o .0) (o .1 .0) (same-equal _ _ (held _ (o .1 .1))))
+      go false e = refl
+
+-- where none matches, the first proposed name
+refused-name : (c : Context) (ws : List Liked) → any (matches c) ws ≡ false → transferFor c ws ≡ firstProposed c
+unfolding transferFor
+refused-name c [] e = refl
+refused-name c (w ∷ ws) e = go (matches c w) e (refused-name c ws)
+  where
+    go : (b : Bool) → (b || any (matches c) ws) ≡ false → (any (matches c) ws ≡ false → transferFor c ws ≡ firstProposed c) → cond b (w .transfer) (transferFor c ws) ≡ firstProposed c
+    go true q f = absurd (held false (sym q))
+    go false q f = f q
+
+refused-so : (c : Context) (ws : List Liked) → (resultFor c ws ≡ ACCEPTED → ⊥) → transferFor c ws ≡ firstProposed c
+refused-so c ws n = go (any (matches c) ws) refl
+  where
+    go : (d : Bool) → any (matches c) ws ≡ d → transferFor c ws ≡ firstProposed c
+    go true e = absurd (n (by-result c ws true (any (sameAbstract c) ws) e refl))
+    go false e = refused-name c ws e
 
 pub well-chosen : (ws : List Liked) (c : Context) → WellChosen ws c (chosen ws c)
 unfolding chosen
 well-chosen ws c =
     record {
-      one-of-three = one-of-results c ws;
+      same-id = refl;
+      best = λ x o. (by-result c ws true (any (sameAbstract c) ws) (best-so c ws x o) refl, best-name c ws x o);
+      no-common = no-common-so c ws;
+      not-there = not-there-so c ws;
       accepted = accepted-so c ws;
       no-transfer = no-transfer-so c ws;
       no-abstract = no-abstract-so c ws;
-      not-both = λ x b n. n .none (b .place) (b .there) (b .matching);
-      not-either = λ x b n. n (b .place) (b .there) (b .matching .abstract-name);
-      not-neither = λ m n. n (m .place) (m .there) (m .abstract-name);
-      only-best = best-only c ws;
+      no-other = one-of-results c ws;
+      refused = refused-so c ws;
     }
 
+pub shut-out : (ws : List Liked) (c : Context) → ShutOut ws c
+shut-out ws c =
+    record {
+      best-no-common = λ x b n. n .none (b .place) (b .there) (b .matching);
+      best-not-there = λ x b n. n (b .place) (b .there) (b .matching .abstract-name);
+      no-common-not-there = λ m n. n (m .place) (m .there) (m .abstract-name);
+    }
+
+-- each of the answers to contexts
+pub each-chosen : (ws : List Liked) (cs : List Context) (k : ℕ) → k < length cs → (c : Context) (a : Answered) → WellChosen ws (getD cs k c) (getD (chosenFor ws cs) k a)
+unfolding chosenFor
+each-chosen ws [] k h c a = absurd (omega arith)
+each-chosen ws (x ∷ cs) zero h c a = well-chosen ws x
+each-chosen ws (x ∷ cs) (suc k) h c a = each-chosen ws cs k (omega arith) c a
+
 -- ---- every chosen transfer name was proposed for that context
-transfer-offered : (c : Context) (ws : List Liked) → leb 1 (length (c .transfers)) ≡ true → offers c (transferFor c ws) ≡ true
-unfolding transferFor firstProposed offers
-transfer-offered c [] l = let h = leb-true 1 (length (c .transfers)) l in one-of-back (getD (c .transfers) 0 []) (c .transfers) 0 (omega arith) refl
-transfer-offered c (w ∷ ws) l = go (matches c w) refl (transfer-offered c ws l)
+transfer-proposed : (c : Context) (ws : List Liked) → leb 1 (length (c .transfers)) ≡ true → wasProposed c (transferFor c ws) ≡ true
+unfolding transferFor firstProposed wasProposed
+transfer-proposed c [] l = let h = leb-true 1 (length (c .transfers)) l in one-of-back (getD (c .transfers) 0 []) (c .transfers) 0 (omega arith) refl
+transfer-proposed c (w ∷ ws) l = go (matches c w) refl (transfer-proposed c ws l)
   where
     go : (b : Bool) → matches c w ≡ b → any (sameBytes (transferFor c ws)) (c .transfers) ≡ true → any (sameBytes (cond b (w .transfer) (transferFor c ws))) (c .transfers) ≡ true
     go true q r = let o = matches-means c w q .transfer-name in one-of-back (w .transfer) (c .transfers) (o .place) (o .there) (o .same)
@@ -200,7 +256,7 @@ module _ (c : Context) (g : contextOk c ≡ true) where
 
   pub was-proposed : (ws : List Liked) → OneOf (chosen ws c .transfer) (c .transfers)
   unfolding chosen
-  was-proposed ws = offers-means c (transferFor c ws) (transfer-offered c ws (left-of _ _ names-parts))
+  was-proposed ws = proposed-means c (transferFor c ws) (transfer-proposed c ws (left-of _ _ names-parts))
 
 -- ---- the answers may be sent
 all-at : (p : List ℕ → Bool) (xs : List (List ℕ)) (k : ℕ) → k < length xs → all p xs ≡ true → p (getD xs k []) ≡ true

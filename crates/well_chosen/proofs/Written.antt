@@ -1,11 +1,11 @@
 -- What a call of `choose` leaves: refused, nothing changes; answered, a good answer sheet of the proposal's contexts, and nothing beyond it.
 -- Assumes nothing.
-use Prim.Native.Nat.{ℕ, _*_}
+use Prim.Native.Nat.{ℕ, _*_, _<_}
 use native.Mathlib.Omega.{arith}
 use mathlib.Core.Bool.{Bool, true, false, not, _&&_, cond}
 use mathlib.Core.List.{List, [], _∷_, map}
 use mathlib.Core.Path.{_≡_, refl, sym, ap, _∙_}
-use lib.ListN.{length, take, drop, length-append, length-map}
+use lib.ListN.{length, take, drop, getD, length-append, length-map}
 use lib.Dec.{leb, eqb}
 use borrow.Author.Tests.{eqb-true, eq-eqb, ne-eqb, not-false}
 use Rattle.laws.specs.Lists.{all}
@@ -16,14 +16,15 @@ use Rattle.octets.specs.Put.{front}
 use Rattle.octets.proofs.PutLaws.{front-start, front-behind}
 use Rattle.numbers.specs.Lengths.{RECORD}
 use Rattle.numbers.specs.Refusals.{NOT-REFUSED, BAD-CONTENTS}
-use Rattle.sheets.specs.Contexts.{Answered, contextId, answeredId, transferNameOk, answeredOk, allAnsweredOk}
-use Rattle.sheets.specs.Sheet.{answerSheetOf, contextsIn, answersIn, proposalOk, answersOk}
+use Rattle.sheets.specs.Contexts.{Context, Answered, contextId, answeredId, transferNameOk, answeredOk, allAnsweredOk}
+use Rattle.sheets.specs.Sheet.{answerSheetOf, contextsIn, answersIn, proposalOk, answersOk, siteOk}
 use Rattle.sheets.proofs.RecordLaws.{record-length}
 use Rattle.sheets.proofs.Inverse.{transfer-fits, proposal-contexts, answered-back, answered-answers}
 use Rattle.choosing.specs.Choice.{siteIn, chosen, chosenFor}
 use Rattle.choosing.specs.Call.{chosenSheet, chooseRefusal, chosenOf, chosenBytes, Chose}
 use Rattle.choosing.specs.declared.Chosen.{Chosen}
-use Rattle.well_chosen.proofs.Meaning.{same-ids, all-good}
+use Rattle.well_chosen.specs.Meaning.{WellChosen}
+use Rattle.well_chosen.proofs.Meaning.{same-ids, all-good, each-chosen}
 
 -- ---- the answer sheet of a good proposal, whatever the site keeps
 sheet-length : (cs : List Answered) → all answeredOk cs ≡ true → length (answerSheetOf cs) ≡ RECORD * length cs
@@ -86,9 +87,17 @@ module _ (proposal site o : List ℕ) (r : Chosen) (o′ : List ℕ) (p : Chose 
     none-due = sym refusal-is ∙ z
 
     -- answered: the two sheets are good
-    pub good-proposal : proposalOk proposal ≡ true
+    sheets-good : (not (proposalOk proposal) ≡ false) × (not (siteOk site) ≡ false)
     unfolding chooseRefusal
-    good-proposal = not-false _ (not-due (not (proposalOk proposal)) BAD-CONTENTS _ (λ e. omega arith) none-due .0)
+    sheets-good =
+        let p = not-due (not (proposalOk proposal)) BAD-CONTENTS _ (λ e. omega arith) none-due in
+        (p .0, not-due (not (siteOk site)) BAD-CONTENTS _ (λ e. omega arith) (p .1) .0)
+
+    pub good-proposal : proposalOk proposal ≡ true
+    good-proposal = not-false (proposalOk proposal) (sheets-good .0)
+
+    pub good-site : siteOk site ≡ true
+    good-site = not-false (siteOk site) (sheets-good .1)
 
     pub records-are : r .records ≡ length (contextsIn proposal)
     unfolding chosenOf
@@ -110,3 +119,8 @@ module _ (proposal site o : List ℕ) (r : Chosen) (o′ : List ℕ) (p : Chose 
 
     pub nothing-beyond : drop (RECORD * r .records) o′ ≡ drop (RECORD * r .records) o
     nothing-beyond = rw (sheet-is, size-is) (front-behind o (chosenSheet proposal site))
+
+    -- each record that was written is the well chosen answer to its context
+    pub written-well : (k : ℕ) → k < length (contextsIn proposal) → (c : Context) (a : Answered)
+        → WellChosen (siteIn site) (getD (contextsIn proposal) k c) (getD (answersIn (take (RECORD * r .records) o′)) k a)
+    written-well k h c a = rw (given-on, sheet-answers proposal site good-proposal) (each-chosen (siteIn site) (contextsIn proposal) k h c a)

@@ -24,7 +24,7 @@ recordsIn n s = take (RECORD * n) s
 abbrev pub Bytes : List ℕ → Type 0
 Bytes s = (i : ℕ) → getD s i 0 < 256
 
--- an RQ was read; a site's sheet is good; from what was read the answers were chosen, into a sheet with room for 128 of them
+-- an RQ was read, into a sheet of bytes; a site's sheet is good; from what was read the answers were chosen, into a sheet with room for 128 of them
 pub record Chain (pdu site answer′ : List ℕ) (f : Associate) (c : Chosen) : Type 0 where
   pub sheet : List ℕ
   pub sheet′ : List ℕ

@@ -5,7 +5,7 @@ use mathlib.Core.List.{List, []}
 use mathlib.Core.Logic.{_⊎_}
 use lib.ListN.{length, getD}
 use Rattle.sheets.specs.Contexts.{Context, Answered}
-use Rattle.choosing.specs.Choice.{Liked, ACCEPTED, ABSTRACT-NOT-SUPPORTED, TRANSFER-NOT-SUPPORTED}
+use Rattle.choosing.specs.Choice.{Liked, ACCEPTED, ABSTRACT-NOT-SUPPORTED, TRANSFER-NOT-SUPPORTED, firstProposed}
 
 -- x stands at some place of the names
 pub record OneOf (x : List ℕ) (xs : List (List ℕ)) : Type 0 where
@@ -41,14 +41,23 @@ pub record NoCommon (ws : List Liked) (c : Context) : Type 0 where
 abbrev pub NotThere : List Liked → Context → Type 0
 NotThere ws c = (k : ℕ) → k < length ws → likedAt ws k .abstr ≡ c .abstr → ⊥
 
--- the answer a to a context, by its result: what it tells of the site's records, and that they could tell nothing else
+-- the answer a to a context, from the site's records to its result and back
 pub record WellChosen (ws : List Liked) (c : Context) (a : Answered) : Type 0 where
-  pub one-of-three : (a .result ≡ ACCEPTED) ⊎ ((a .result ≡ TRANSFER-NOT-SUPPORTED) ⊎ (a .result ≡ ABSTRACT-NOT-SUPPORTED))
+  pub same-id : a .id ≡ c .id
+  -- what the records say decides the result; with 0 goes the name of the best, and no other
+  pub best : (x : List ℕ) → Best ws c x → (a .result ≡ ACCEPTED) × (a .transfer ≡ x)
+  pub no-common : NoCommon ws c → a .result ≡ TRANSFER-NOT-SUPPORTED
+  pub not-there : NotThere ws c → a .result ≡ ABSTRACT-NOT-SUPPORTED
+  -- and the result tells it
   pub accepted : a .result ≡ ACCEPTED → Best ws c (a .transfer)
   pub no-transfer : a .result ≡ TRANSFER-NOT-SUPPORTED → NoCommon ws c
   pub no-abstract : a .result ≡ ABSTRACT-NOT-SUPPORTED → NotThere ws c
-  -- the three shut each other out, and no other name is the best
-  pub not-both : (x : List ℕ) → Best ws c x → NoCommon ws c → ⊥
-  pub not-either : (x : List ℕ) → Best ws c x → NotThere ws c → ⊥
-  pub not-neither : NoCommon ws c → NotThere ws c → ⊥
-  pub only-best : (x y : List ℕ) → Best ws c x → Best ws c y → x ≡ y
+  pub no-other : (a .result ≡ ACCEPTED) ⊎ ((a .result ≡ TRANSFER-NOT-SUPPORTED) ⊎ (a .result ≡ ABSTRACT-NOT-SUPPORTED))
+  -- "Refused contexts carry their first proposed transfer name."
+  pub refused : (a .result ≡ ACCEPTED → ⊥) → a .transfer ≡ firstProposed c
+
+-- the three shut each other out
+pub record ShutOut (ws : List Liked) (c : Context) : Type 0 where
+  pub best-no-common : (x : List ℕ) → Best ws c x → NoCommon ws c → ⊥
+  pub best-not-there : (x : List ℕ) → Best ws c x → NotThere ws c → ⊥
+  pub no-common-not-there : NoCommon ws c → NotThere ws c → ⊥

@@ -27,5 +27,5 @@ unfoldable pub resultFrom : ℕ → Context → List Liked → ℕ
 resultFrom before c ws = cond (any (matches c) ws) ACCEPTED (cond (any (sameAbstract c) ws) TRANSFER-NOT-SUPPORTED before)
 
 -- the record of an answer
-unfoldable pub answerRecord : Answered → List ℕ
-answerRecord a = recordBytes (a .id) (a .result) [] (a .transfer)
+unfoldable pub answerBytes : Answered → List ℕ
+answerBytes a = recordBytes (a .id) (a .result) [] (a .transfer)

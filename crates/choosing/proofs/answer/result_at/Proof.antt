@@ -10,4 +10,4 @@ result-at-spec =
     (tie.spec
     (λ c κs. search result-laws) (λ c κs. search result-laws)  -- abstract-at-requires, abstract-at-requires-2
     (λ c κs. search result-laws) (λ c. search result-laws) (λ c κs. search result-laws)  -- same-bytes-requires, returns, transfer-at-requires
-    (λ c κs. search result-laws) (λ c. search result-laws) (λ c. search result-laws))  -- offered-requires, returns-2, returns-3
+    (λ c κs. search result-laws) (λ c. search result-laws) (λ c. search result-laws))  -- was-proposed-requires, returns-2, returns-3
