@@ -144,11 +144,14 @@ impl Generator {
         }
     }
 
-    /// AC contents with a record for each of the 128 IDs, and one more whose ID has come before.
+    /// AC contents with a record for each of the 128 IDs, and one more whose ID has come before; seldom ID 1, which is
+    /// refused, carries a name.
     pub fn full_ac_writing(&mut self, over: usize) {
         self.mark("large: 2 or a");
+        let named = self.random.chance(20);
+        let transfer = |id: u8| if id % 5 == 0 || (id == 1 && named) { &b"1.2"[..] } else { b"" };
         let ids = all_ids(over);
-        let records: Vec<Vec<u8>> = ids.iter().map(|id| sheet_record(*id, id % 5, b"", b"1.2")).collect();
+        let records: Vec<Vec<u8>> = ids.iter().map(|id| sheet_record(*id, id % 5, b"", transfer(*id))).collect();
         let contents = AcContents { echoed: vec![9; 64], application: b"1.2".to_vec(), sheet: records.concat() };
         let needed = write::ac(&contents.echoed, &contents.application, &contents.sheet).map_or(20, |b| b.len());
         let room = self.random.pick(&[needed, needed - 1]);

@@ -23,11 +23,38 @@ impl Sheet {
 
     /// Edits one record, often the last.
     fn with_record(&mut self, random: &mut Random, edit: impl FnOnce(&mut Vec<u8>, &mut Random)) {
-        if !self.records.is_empty() {
-            let last = self.records.len() - 1;
-            let place = if random.chance(50) { last } else { random.below(last + 1) };
+        let all: Vec<usize> = (0..self.records.len()).collect();
+        self.with_one_of(&all, random, edit);
+    }
+
+    fn with_one_of(&mut self, places: &[usize], random: &mut Random, edit: impl FnOnce(&mut Vec<u8>, &mut Random)) {
+        if let Some(last) = places.last() {
+            let place = if random.chance(50) { *last } else { random.pick(places) };
             edit(&mut self.records[place], random);
         }
+    }
+
+    /// Edits one of the records with a result of 0, or of the others; where there is none, one is made so.
+    fn with_result(&mut self, zero: bool, random: &mut Random, edit: impl FnOnce(&mut Vec<u8>, &mut Random)) {
+        if !self.records.iter().any(|record| (record[1] == 0) == zero) {
+            self.with_record(random, |record, random| {
+                let result = if zero { 0 } else { random.between(1, 4) as u8 };
+                set_result(record, result, random);
+            });
+        }
+        let fitting: Vec<usize> =
+            (0..self.records.len()).filter(|place| (self.records[*place][1] == 0) == zero).collect();
+        self.with_one_of(&fitting, random, edit);
+    }
+
+    /// Edits one record that carries a transfer name.
+    fn with_named(&mut self, random: &mut Random, edit: impl FnOnce(&mut Vec<u8>, &mut Random)) {
+        self.with_result(true, random, edit);
+    }
+
+    /// Edits one refused record of an answer.
+    fn with_refused(&mut self, random: &mut Random, edit: impl FnOnce(&mut Vec<u8>, &mut Random)) {
+        self.with_result(false, random, edit);
     }
 
     /// Sets the abstract name of one record, and of all that share its ID and abstract name.
@@ -67,6 +94,13 @@ fn set_name(record: &mut [u8], transfer: bool, name: &[u8]) {
     }
 }
 
+/// Gives a record of an answer a result, and the transfer name or none that goes with it.
+fn set_result(record: &mut [u8], result: u8, random: &mut Random) {
+    let transfer = if result == 0 { good_name(random) } else { Vec::new() };
+    record[1] = result;
+    set_name(record, true, &transfer);
+}
+
 /// A bad name that fits a field of 64 bytes, not empty.
 fn short_bad_name(random: &mut Random) -> Vec<u8> {
     loop {
@@ -79,12 +113,14 @@ fn short_bad_name(random: &mut Random) -> Vec<u8> {
 
 /// A record of a good sheet.
 fn good_record(proposal: bool, id: u8, random: &mut Random) -> Vec<u8> {
-    let transfer = good_name(random);
+    let mut record = sheet_record(id, 0, b"", &good_name(random));
     if proposal {
-        sheet_record(id, 0, &good_name(random), &transfer)
+        set_name(&mut record, false, &good_name(random));
     } else {
-        sheet_record(id, random.pick(&[0, 0, 1, 2, 3, 4]), b"", &transfer)
+        let result = random.pick(&[0, 0, 1, 2, 3, 4]);
+        set_result(&mut record, result, random);
     }
+    record
 }
 
 /// A good sheet of few records.
@@ -99,10 +135,10 @@ pub fn good_sheet(proposal: bool, random: &mut Random) -> Sheet {
 /// Twists of all sheets alike.
 pub static SHEET: &[Twist<Sheet>] = &[
     inside("sheet: transfer name of 64 bytes", |s, r| {
-        s.with_record(r, |record, r| set_name(record, true, &name_of_length(64, r)));
+        s.with_named(r, |record, r| set_name(record, true, &name_of_length(64, r)));
     }),
     inside("sheet: transfer name of 1 byte", |s, r| {
-        s.with_record(r, |record, _| set_name(record, true, b"0"));
+        s.with_named(r, |record, _| set_name(record, true, b"0"));
     }),
     outside("sheet: no record", |s, _| s.records.clear()),
     outside("sheet: last record cut", |s, r| {
@@ -116,32 +152,32 @@ pub static SHEET: &[Twist<Sheet>] = &[
         s.tail = vec![0; length];
     }),
     outside("sheet: transfer length 0", |s, r| {
-        s.with_record(r, |record, _| set_name(record, true, b""));
+        s.with_named(r, |record, _| set_name(record, true, b""));
     }),
     outside("sheet: transfer length above 64", |s, r| {
-        s.with_record(r, |record, r| {
+        s.with_named(r, |record, r| {
             set_name(record, true, &name_of_length(64, r));
             record[3] = r.pick(&[65, 66, 128, 255]);
         });
     }),
     outside("sheet: transfer length one less", |s, r| {
-        s.with_record(r, |record, _| record[3] -= 1);
+        s.with_named(r, |record, _| record[3] -= 1);
     }),
     outside("sheet: transfer length one more", |s, r| {
-        s.with_record(r, |record, _| {
+        s.with_named(r, |record, _| {
             set_name(record, true, b"1.2");
             record[3] += 1;
         });
     }),
     outside("sheet: unused transfer byte not zero", |s, r| {
-        s.with_record(r, |record, r| {
+        s.with_named(r, |record, r| {
             set_name(record, true, b"1.2");
             let place = r.pick(&[3, 4, 40, 62, 63]);
             record[68 + place] = r.pick(&[1, 0x20, 0x31, 0xff]);
         });
     }),
     outside("sheet: bad transfer name", |s, r| {
-        s.with_record(r, |record, r| set_name(record, true, &short_bad_name(r)));
+        s.with_named(r, |record, r| set_name(record, true, &short_bad_name(r)));
     }),
 ];
 
@@ -157,6 +193,12 @@ pub static ABSTRACT: &[Twist<Sheet>] = &[
     }),
     outside("sheet: result not 0", |s, r| {
         s.with_record(r, |record, r| record[1] = r.pick(&[1, 3, 4, 5, 255]));
+    }),
+    outside("sheet: result not 0, no transfer name", |s, r| {
+        s.with_record(r, |record, r| {
+            let result = r.between(1, 4) as u8;
+            set_result(record, result, r);
+        });
     }),
     outside("sheet: abstract length 0", |s, r| {
         s.with_record(r, |record, _| set_name(record, false, b""));
@@ -243,7 +285,16 @@ pub static SITE: &[Twist<Sheet>] = &[
 pub static ANSWER: &[Twist<Sheet>] = &[
     inside("answer: one more context", |s, r| s.add_context(false, r)),
     inside("answer: result 0 to 4", |s, r| {
-        s.with_record(r, |record, r| record[1] = r.below(5) as u8);
+        s.with_record(r, |record, r| {
+            let result = r.below(5) as u8;
+            set_result(record, result, r);
+        });
+    }),
+    inside("answer: all refused", |s, r| {
+        for record in s.records.iter_mut() {
+            let result = r.between(1, 4) as u8;
+            set_result(record, result, r);
+        }
     }),
     outside("answer: even ID", |s, r| s.set_even_id(r)),
     outside("answer: result above 4", |s, r| {
@@ -271,6 +322,67 @@ pub static ANSWER: &[Twist<Sheet>] = &[
     }),
 ];
 
+/// Twists of an answer's refused records, which carry no transfer name: its length and its field are zero.
+pub static REFUSED: &[Twist<Sheet>] = &[
+    inside("refused record: one more", |s, r| {
+        let id = s.free_id(r);
+        s.records.push(sheet_record(id, r.between(1, 4) as u8, b"", b""));
+    }),
+    outside("refused record: a good transfer name", |s, r| {
+        s.with_refused(r, |record, r| set_name(record, true, &good_name(r)));
+    }),
+    outside("refused record: a transfer name of 64 bytes", |s, r| {
+        s.with_refused(r, |record, r| set_name(record, true, &name_of_length(64, r)));
+    }),
+    outside("refused record: a bad transfer name", |s, r| {
+        s.with_refused(r, |record, r| set_name(record, true, &short_bad_name(r)));
+    }),
+    outside("refused record: a name accepted first", |s, r| {
+        s.with_named(r, |record, r| record[1] = r.between(1, 4) as u8);
+    }),
+    outside("refused record: a name in the field, length 0", |s, r| {
+        s.with_refused(r, |record, r| {
+            set_name(record, true, &good_name(r));
+            record[3] = 0;
+        });
+    }),
+    outside("refused record: first byte of the field", |s, r| {
+        s.with_refused(r, |record, r| record[68] = r.pick(&[1, 0x20, 0x31, 0x80, 0xff]));
+    }),
+    outside("refused record: last byte of the field", |s, r| {
+        s.with_refused(r, |record, r| record[131] = r.pick(&[1, 0x20, 0x31, 0x80, 0xff]));
+    }),
+    outside("refused record: a byte within the field", |s, r| {
+        s.with_refused(r, |record, r| record[68 + r.between(1, 62)] = r.pick(&[1, 0x20, 0x31, 0x80, 0xff]));
+    }),
+    outside("refused record: transfer length 1, field zero", |s, r| s.with_refused(r, |record, _| record[3] = 1)),
+    outside("refused record: transfer length 2 to 64, field zero", |s, r| {
+        s.with_refused(r, |record, r| record[3] = r.pick(&[2, 3, 17, 63, 64]));
+    }),
+    outside("refused record: transfer length above 64, field zero", |s, r| {
+        s.with_refused(r, |record, r| record[3] = r.pick(&[65, 66, 128, 255]));
+    }),
+    outside("refused record: an abstract name", |s, r| {
+        s.with_refused(r, |record, r| set_name(record, false, &good_name(r)));
+    }),
+    outside("refused record: even ID", |s, r| s.with_refused(r, |record, r| record[0] = r.pick(&[0, 2, 128, 254]))),
+    outside("refused record: result 5", |s, r| s.with_refused(r, |record, _| record[1] = 5)),
+    outside("refused record: its ID refused again", |s, r| {
+        let mut again = Vec::new();
+        s.with_refused(r, |record, _| again = record.clone());
+        s.records.push(again);
+    }),
+    outside("refused record: its ID accepted too", |s, r| {
+        let mut again = Vec::new();
+        s.with_refused(r, |record, r| {
+            again = record.clone();
+            set_result(&mut again, 0, r);
+        });
+        s.records.insert(r.below(s.records.len() + 1), again);
+    }),
+    outside("accepted record: no transfer name", |s, r| s.with_named(r, |record, _| set_name(record, true, b""))),
+];
+
 /// The twists of a kind of sheet, and the word that they are counted under.
 pub struct Twists {
     word: &'static str,
@@ -283,7 +395,7 @@ impl Twists {
     }
 
     fn of_answer() -> Twists {
-        Twists { word: "twist", list: SHEET.iter().chain(ANSWER).collect() }
+        Twists { word: "twist", list: SHEET.iter().chain(ANSWER).chain(REFUSED).collect() }
     }
 
     /// Of a proposal that C answers.

@@ -75,9 +75,12 @@ fn proposed(read: &Associate) -> String {
     read.contexts.iter().map(line).collect()
 }
 
+/// A refused context has no transfer name to show.
 fn answered(read: &Associate) -> String {
-    let line =
-        |c: &crate::valid::Context| format!(" context {} result {} transfer {}", c.id, c.result, text(c.transfers[0]));
+    let line = |c: &crate::valid::Context| match c.result {
+        0 => format!(" context {} result 0 transfer {}", c.id, text(c.transfers[0])),
+        result => format!(" context {} result {}", c.id, result),
+    };
     read.contexts.iter().map(line).collect()
 }
 

@@ -1,4 +1,4 @@
-//! The second program: document 01 and request E1 by value, for comparison with the proved one.
+//! The second program: document 01 and requests E1 and E2 by value, for comparison with the proved one.
 
 mod calls_bad;
 mod calls_choose;
@@ -18,12 +18,15 @@ mod marks;
 mod names;
 mod pdus;
 mod random;
+mod refused;
 mod replay;
 mod script;
 #[cfg(test)]
 mod tests;
 #[cfg(test)]
 mod tests_choose;
+#[cfg(test)]
+mod tests_refused;
 mod twists;
 mod valid;
 mod write;
@@ -32,7 +35,7 @@ use std::fs::File;
 use std::io::{self, BufRead, BufWriter, Read, Write};
 use std::process::exit;
 
-const HELP: &str = "second: document 01 and request E1 written a second time, by value
+const HELP: &str = "second: document 01 and requests E1 and E2 written a second time, by value
 
 second answer                                  answers the call lines of standard input
 second generate SEED COUNT                     prints COUNT call lines

@@ -1,6 +1,7 @@
 //! Plans of PDUs for the generator: names, titles, and good PDUs in parts that can be changed.
 
 use crate::random::Random;
+use crate::refused::{accepted_context, refused_context};
 
 /// An item; its length field is the body's length plus a slip.
 #[derive(Clone, Debug)]
@@ -22,7 +23,7 @@ impl Node {
         Node { kind, reserved: 0, head: head.to_vec(), inner, tail: Vec::new(), slip: 0 }
     }
 
-    fn bytes(&self) -> Vec<u8> {
+    pub fn bytes(&self) -> Vec<u8> {
         let mut body = self.head.clone();
         body.extend(self.inner.iter().flat_map(|node| node.bytes()));
         body.extend_from_slice(&self.tail);
@@ -117,8 +118,9 @@ impl Plan {
         self.with_item(0x10, |node| node.head = name.to_vec());
     }
 
+    /// Sets a name that is tested.
     pub fn set_sub_name(&mut self, random: &mut Random, kind: u8, name: &[u8]) {
-        self.with_context(random, |context, random| {
+        self.with_tested(random, |context, random| {
             let places: Vec<usize> = (0..context.inner.len()).filter(|i| context.inner[*i].kind == kind).collect();
             if !places.is_empty() {
                 let place = random.pick(&places);
@@ -408,9 +410,10 @@ pub fn good_context(kind: u8, id: u8, random: &mut Random) -> Node {
             inner.push(Node::leaf(0x40, &good_name(random)));
         }
         Node::holder(0x20, &[id, 0, 0, 0], inner)
+    } else if random.chance(45) {
+        accepted_context(id, random)
     } else {
-        let result = random.pick(&[0, 0, 0, 1, 2, 3, 4]);
-        Node::holder(0x21, &[id, 0, result, 0], vec![Node::leaf(0x40, &good_name(random))])
+        refused_context(id, random)
     }
 }
 

@@ -1,9 +1,10 @@
 //! PDUs for the generator: valid, invalid and near a rule, made from plans and twists.
 
 use crate::items::four_bytes;
-use crate::make::{framed_with_slip, good_data, good_plan, good_short, ShortPlan};
+use crate::make::{framed_with_slip, good_data, good_plan, good_short, Plan, ShortPlan};
 use crate::marks::Marks;
 use crate::random::Random;
+use crate::refused::FAULTS;
 use crate::twists::Expect::{Either, Inside, Outside};
 use crate::twists::{seldom_used, Expect, Twist, ABORT, AC, BOTH, CONTROL_BITS, DATA, RJ, RQ, SHORT};
 use crate::valid::judge;
@@ -22,9 +23,9 @@ fn twisted(kind: u8, wants: &[Option<Expect>], random: &mut Random, marks: &mut 
     match kind {
         1 | 2 => {
             let mut plan = good_plan(kind, random);
-            let own = if kind == 1 { RQ } else { AC };
+            let lists: &[&[Twist<Plan>]] = if kind == 1 { &[BOTH, RQ] } else { &[BOTH, AC, FAULTS] };
             for want in wants {
-                twist(&mut plan, &[BOTH, own], *want, random, marks);
+                twist(&mut plan, lists, *want, random, marks);
             }
             plan.bytes()
         }

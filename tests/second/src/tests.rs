@@ -4,7 +4,7 @@ use std::collections::BTreeSet;
 
 use crate::calls_choose::good_choice;
 use crate::choose::choose;
-use crate::contents::{good_sheet, Sheet, ABSTRACT, ANSWER, PROPOSAL, SHEET, SITE};
+use crate::contents::{good_sheet, Sheet, ABSTRACT, ANSWER, PROPOSAL, REFUSED, SHEET, SITE};
 use crate::fields::{kind, pdv_at, read_ac, read_pdv, read_rj, read_rq, sheet_record};
 use crate::generate::{filled_cells, hex, Generator};
 use crate::items::four_bytes;
@@ -17,6 +17,7 @@ use crate::marks::Marks;
 use crate::names::{name_is_valid, title_check, title_is_valid, titles_equal};
 use crate::pdus::{invalid_pdu, over_length_header, rq_with_version, valid_pdu};
 use crate::random::Random;
+use crate::refused::FAULTS;
 use crate::replay::{digest, fresh, Replay};
 use crate::twists::{Expect, Twist, ABORT, AC, BOTH, CONTROL_BITS, DATA, RJ, RQ, SHORT};
 use crate::valid::{judge, Pdu};
@@ -276,7 +277,7 @@ fn trap_1_what_is_known_where() {
     for skipped in [item(0x20, &[2]), proposed(1, &names), item(0x52, b"")].iter() {
         assert_eq!(ac(&[app.clone(), skipped.clone(), answer.clone(), user(), skipped.clone()]), 2);
     }
-    assert_eq!(ac(&[app.clone(), answered(1, 3, &[item(0x30, b"bad"), names[1].clone()]), user()]), 2);
+    assert_eq!(ac(&[app.clone(), answered(1, 0, &[item(0x30, b"bad"), names[1].clone()]), user()]), 2);
     assert_eq!(
         rq(&[
             app.clone(),
@@ -664,7 +665,7 @@ fn title_bytes_one_by_one() {
 
 // The generator's twists do what they say.
 
-fn check_twists<P>(lists: &[&[Twist<P>]], make: &mut dyn FnMut(&mut Random) -> P, valid: &dyn Fn(&P) -> bool) {
+pub fn check_twists<P>(lists: &[&[Twist<P>]], make: &mut dyn FnMut(&mut Random) -> P, valid: &dyn Fn(&P) -> bool) {
     let mut random = Random::new(7);
     for twist in lists.iter().flat_map(|list| list.iter()) {
         for _ in 0..150 {
@@ -683,7 +684,7 @@ fn check_twists<P>(lists: &[&[Twist<P>]], make: &mut dyn FnMut(&mut Random) -> P
 #[test]
 fn twists_of_pdus() {
     check_twists(&[BOTH, RQ], &mut |r| good_plan(1, r), &|p| judge(&p.bytes()).is_ok());
-    check_twists(&[BOTH, AC], &mut |r| good_plan(2, r), &|p| judge(&p.bytes()).is_ok());
+    check_twists(&[BOTH, AC, FAULTS], &mut |r| good_plan(2, r), &|p| judge(&p.bytes()).is_ok());
     check_twists(&[DATA, CONTROL_BITS], &mut good_data, &|p| judge(&p.bytes()).is_ok());
     check_twists(&[SHORT, RJ], &mut |r| good_short(3, r), &|p| judge(&p.bytes()).is_ok());
     check_twists(&[SHORT, ABORT], &mut |r| good_short(7, r), &|p| judge(&p.bytes()).is_ok());
@@ -697,7 +698,7 @@ fn twists_of_sheets() {
     let proposal = |s: &Sheet| write::rq(EQUINE, EXOTIC, b"1.2", &s.bytes()).is_ok();
     let answer = |s: &Sheet| write::ac(&[0; 64], b"1.2", &s.bytes()).is_ok();
     check_twists(&[SHEET, ABSTRACT, PROPOSAL], &mut |r| good_sheet(true, r), &proposal);
-    check_twists(&[SHEET, ANSWER], &mut |r| good_sheet(false, r), &answer);
+    check_twists(&[SHEET, ANSWER, REFUSED], &mut |r| good_sheet(false, r), &answer);
     let one = sheet_record(1, 0, b"1.2", b"1.2");
     let liked = sheet_record(0, 0, b"1.2", b"1.2");
     let asked = |s: &Sheet| choose(&s.bytes(), &liked, &[0; 20_000]).is_ok();

@@ -3,7 +3,7 @@
 use std::collections::{BTreeMap, BTreeSet};
 
 use crate::choose::choose;
-use crate::fields::{read_rq, sheet_record, RECORD};
+use crate::fields::{read_ac, read_rq, sheet_record, RECORD};
 use crate::generate::{hex, Call, Generator};
 use crate::names::name_is_valid;
 use crate::replay::{digest, Replay};
@@ -65,42 +65,42 @@ fn the_first_of_several_matches() {
 
 #[test]
 fn three_against_four() {
-    check(&[(1, "1.2", &["5"])], &[("1.3", "5")], &[(1, 3, "5")]);
-    check(&[(1, "1.2", &["5"])], &[("1.2", "6")], &[(1, 4, "5")]);
+    check(&[(1, "1.2", &["5"])], &[("1.3", "5")], &[(1, 3, "")]);
+    check(&[(1, "1.2", &["5"])], &[("1.2", "6")], &[(1, 4, "")]);
     // The one record with the abstract name may stand anywhere.
-    check(&[(1, "1.2", &["5"])], &[("1.2", "6"), ("1.3", "5"), ("1.3", "6")], &[(1, 4, "5")]);
-    check(&[(1, "1.2", &["5"])], &[("1.3", "5"), ("1.3", "6"), ("1.2", "6")], &[(1, 4, "5")]);
+    check(&[(1, "1.2", &["5"])], &[("1.2", "6"), ("1.3", "5"), ("1.3", "6")], &[(1, 4, "")]);
+    check(&[(1, "1.2", &["5"])], &[("1.3", "5"), ("1.3", "6"), ("1.2", "6")], &[(1, 4, "")]);
     // All three results in one answer.
     let asked: &[Asked] = &[(1, "1.1", &["5"]), (3, "1.2", &["5"]), (5, "1.3", &["5"])];
-    check(asked, &[("1.3", "5"), ("1.2", "6")], &[(1, 3, "5"), (3, 4, "5"), (5, 0, "5")]);
+    check(asked, &[("1.3", "5"), ("1.2", "6")], &[(1, 3, ""), (3, 4, ""), (5, 0, "5")]);
 }
 
 #[test]
 fn a_transfer_name_under_another_abstract_name_does_not_count() {
-    check(&[(1, "1.2", &["5", "6"])], &[("1.3", "5"), ("1.2", "7"), ("1.3", "6")], &[(1, 4, "5")]);
-    check(&[(1, "1.2", &["5"]), (3, "1.3", &["6"])], &[("1.2", "6"), ("1.3", "5")], &[(1, 4, "5"), (3, 4, "6")]);
+    check(&[(1, "1.2", &["5", "6"])], &[("1.3", "5"), ("1.2", "7"), ("1.3", "6")], &[(1, 4, "")]);
+    check(&[(1, "1.2", &["5"]), (3, "1.3", &["6"])], &[("1.2", "6"), ("1.3", "5")], &[(1, 4, ""), (3, 4, "")]);
 }
 
 #[test]
 fn abstract_and_transfer_names_are_not_mixed() {
-    check(&[(1, "1.2", &["5"])], &[("5", "1.2")], &[(1, 3, "5")]);
-    check(&[(1, "1.2", &["5"])], &[("5", "5")], &[(1, 3, "5")]);
-    check(&[(1, "1.2", &["5"])], &[("1.2", "1.2")], &[(1, 4, "5")]);
+    check(&[(1, "1.2", &["5"])], &[("5", "1.2")], &[(1, 3, "")]);
+    check(&[(1, "1.2", &["5"])], &[("5", "5")], &[(1, 3, "")]);
+    check(&[(1, "1.2", &["5"])], &[("1.2", "1.2")], &[(1, 4, "")]);
     check(&[(1, "5", &["5"])], &[("5", "1.2"), ("5", "5")], &[(1, 0, "5")]);
 }
 
 #[test]
-fn refused_contexts_carry_their_first_proposed_transfer_name() {
-    check(&[(1, "1.2", &["9", "5", "1"])], &[("1.3", "5")], &[(1, 3, "9")]);
-    check(&[(1, "1.2", &["9", "5", "1"])], &[("1.2", "6")], &[(1, 4, "9")]);
-    check(&[(1, "1.2", &["9", "5"]), (3, "1.2", &["7", "9"])], &[("1.2", "6")], &[(1, 4, "9"), (3, 4, "7")]);
+fn refused_contexts_carry_no_transfer_name() {
+    check(&[(1, "1.2", &["9", "5", "1"])], &[("1.3", "5")], &[(1, 3, "")]);
+    check(&[(1, "1.2", &["9", "5", "1"])], &[("1.2", "6")], &[(1, 4, "")]);
+    check(&[(1, "1.2", &["9", "5"]), (3, "1.2", &["7", "9"])], &[("1.2", "6")], &[(1, 4, ""), (3, 4, "")]);
 }
 
 #[test]
 fn repeated_site_records_are_allowed() {
     let asked: &[Asked] = &[(1, "1.2", &["5", "6"])];
     check(asked, &[("1.2", "6"), ("1.2", "6"), ("1.2", "5")], &[(1, 0, "6")]);
-    check(asked, &[("1.2", "7"), ("1.2", "7")], &[(1, 4, "5")]);
+    check(asked, &[("1.2", "7"), ("1.2", "7")], &[(1, 4, "")]);
     // ID 0 in three runs.
     check(asked, &[("1.2", "7"), ("1.3", "7"), ("1.2", "6"), ("1.3", "7")], &[(1, 0, "6")]);
     check_sheets(&proposal(asked), &site(&[("1.2", "6")]).repeat(600), &[(1, 0, "6")]);
@@ -109,7 +109,7 @@ fn repeated_site_records_are_allowed() {
 #[test]
 fn equal_transfer_names_in_a_run() {
     check(&[(1, "1.2", &["5", "5", "5"])], &[("1.2", "5")], &[(1, 0, "5")]);
-    check(&[(1, "1.2", &["6", "5", "6"])], &[("1.2", "4")], &[(1, 4, "6")]);
+    check(&[(1, "1.2", &["6", "5", "6"])], &[("1.2", "4")], &[(1, 4, "")]);
 }
 
 #[test]
@@ -117,12 +117,12 @@ fn two_contexts_of_one_abstract_name() {
     let pairs = [("1.2", "5"), ("1.2", "6")];
     check(&[(1, "1.2", &["6"]), (3, "1.2", &["5"])], &pairs, &[(1, 0, "6"), (3, 0, "5")]);
     check(&[(1, "1.2", &["5", "6"]), (3, "1.2", &["6", "5"])], &pairs, &[(1, 0, "5"), (3, 0, "5")]);
-    check(&[(1, "1.2", &["7"]), (3, "1.2", &["6"])], &pairs, &[(1, 4, "7"), (3, 0, "6")]);
+    check(&[(1, "1.2", &["7"]), (3, "1.2", &["6"])], &pairs, &[(1, 4, ""), (3, 0, "6")]);
     // What a neighbour proposes is not proposed here.
     check(
         &[(1, "1.2", &["7"]), (3, "1.2", &["5"]), (5, "1.2", &["8"])],
         &pairs,
-        &[(1, 4, "7"), (3, 0, "5"), (5, 4, "8")],
+        &[(1, 4, ""), (3, 0, "5"), (5, 4, "")],
     );
 }
 
@@ -139,9 +139,9 @@ fn answers_in_the_order_of_the_proposal() {
 #[test]
 fn names_that_are_beginnings_of_each_other() {
     for other in ["1", "1.2.3", "1.23", "1.2.0", "11.2"] {
-        check(&[(1, "1.2", &["5"])], &[(other, "5")], &[(1, 3, "5")]);
-        check(&[(1, other, &["5"])], &[("1.2", "5")], &[(1, 3, "5")]);
-        check(&[(1, "5", &["1.2"])], &[("5", other)], &[(1, 4, "1.2")]);
+        check(&[(1, "1.2", &["5"])], &[(other, "5")], &[(1, 3, "")]);
+        check(&[(1, other, &["5"])], &[("1.2", "5")], &[(1, 3, "")]);
+        check(&[(1, "5", &["1.2"])], &[("5", other)], &[(1, 4, "")]);
         check(&[(1, "5", &["1.2", "7"])], &[("5", other), ("5", "1.2")], &[(1, 0, "1.2")]);
     }
     check(&[(1, "5", &["1.2", "1.23"])], &[("5", "1.23"), ("5", "1.2")], &[(1, 0, "1.23")]);
@@ -150,8 +150,8 @@ fn names_that_are_beginnings_of_each_other() {
 #[test]
 fn names_of_equal_length_that_differ_in_one_byte() {
     for other in ["2.2.3", "1.3.3", "1.2.4", "112.3"] {
-        check(&[(1, "1.2.3", &["5"])], &[(other, "5")], &[(1, 3, "5")]);
-        check(&[(1, "5", &["1.2.3"])], &[("5", other)], &[(1, 4, "1.2.3")]);
+        check(&[(1, "1.2.3", &["5"])], &[(other, "5")], &[(1, 3, "")]);
+        check(&[(1, "5", &["1.2.3"])], &[("5", other)], &[(1, 4, "")]);
     }
 }
 
@@ -160,7 +160,7 @@ fn names_of_64_bytes() {
     let long = "1234567.".repeat(7) + "12345678";
     let asked = sheet_record(1, 0, long.as_bytes(), long.as_bytes());
     let chosen = |pairs: &[(&str, &str)]| choose(&asked, &site(pairs), &[0; RECORD]).unwrap().1;
-    let answered = |result| sheet_record(1, result, b"", long.as_bytes());
+    let answered = |result| sheet_record(1, result, b"", if result == 0 { long.as_bytes() } else { b"" });
     for place in [0, 31, 62, 63] {
         let mut other = long.clone();
         other.replace_range(place..=place, "9");
@@ -177,8 +177,7 @@ fn all_128_contexts() {
     let names: Vec<String> = ids.iter().map(|id| format!("1.{}", id)).collect();
     let contexts: Vec<Asked> = ids.iter().zip(&names).map(|(id, name)| (*id, &name[..], &["5", "6"][..])).collect();
     let known: Vec<(&str, &str)> = names.iter().skip(1).step_by(2).map(|name| (&name[..], "6")).collect();
-    let expected: Vec<Answered> =
-        ids.iter().map(|id| if id % 4 == 3 { (*id, 0, "6") } else { (*id, 3, "5") }).collect();
+    let expected: Vec<Answered> = ids.iter().map(|id| if id % 4 == 3 { (*id, 0, "6") } else { (*id, 3, "") }).collect();
     check(&contexts, &known, &expected);
 }
 
@@ -196,8 +195,9 @@ fn from_a_received_rq_to_the_ac() {
     let (fields, read) = read_rq(&rq, &[0; 3 * RECORD]).unwrap();
     assert_eq!(fields.records, 3);
     let (count, after) = choose(&read, &site(&[("1.2", "6")]), &[0; 2 * RECORD]).unwrap();
-    assert_eq!((count, &after[..]), (2, &answers(&[(3, 0, "6"), (1, 3, "5")])[..]));
-    assert!(write::ac(&rq[10..74], b"1.2", &after).is_ok());
+    assert_eq!((count, &after[..]), (2, &answers(&[(3, 0, "6"), (1, 3, "")])[..]));
+    let ac = write::ac(&rq[10..74], b"1.2", &after).unwrap();
+    assert_eq!(read_ac(&ac, &[0; 2 * RECORD]).map(|(_, sheet)| sheet), Ok(after));
 }
 
 // Bad sheets.
@@ -208,6 +208,13 @@ fn spoiled(good: &[u8]) -> Vec<(&'static str, Vec<u8>)> {
         let mut sheet = good.to_vec();
         let last = sheet.len() - RECORD;
         sheet[last + place] = value;
+        sheet
+    };
+    let nameless = |result: u8| {
+        let mut sheet = with(1, result);
+        let last = sheet.len() - RECORD;
+        sheet[last + 3] = 0;
+        sheet[last + 68..].fill(0);
         sheet
     };
     vec![
@@ -226,6 +233,8 @@ fn spoiled(good: &[u8]) -> Vec<(&'static str, Vec<u8>)> {
         ("abstract length 64", with(2, 64)),
         ("abstract length 65", with(2, 65)),
         ("abstract length 255", with(2, 255)),
+        ("no transfer name", nameless(0)),
+        ("result 3 and no transfer name", nameless(3)),
         ("transfer length 0", with(3, 0)),
         ("transfer length one less", with(3, 2)),
         ("transfer length one more", with(3, 4)),
@@ -318,7 +327,7 @@ fn room_is_counted_by_contexts() {
     assert_eq!(choose(&asked, &liked, &[0xc3; 132]), Ok((1, answers(&[(1, 0, "5")]))));
     // Three contexts of five records.
     let asked = proposal(&[(1, "1.2", &["5", "6"]), (3, "1.3", &["5"]), (5, "1.2", &["7", "5"])]);
-    let expected = answers(&[(1, 0, "5"), (3, 3, "5"), (5, 0, "5")]);
+    let expected = answers(&[(1, 0, "5"), (3, 3, ""), (5, 0, "5")]);
     assert_eq!(refused(&asked, &liked, 2 * RECORD), Some(2));
     assert_eq!(refused(&asked, &liked, 3 * RECORD - 1), Some(2));
     assert_eq!(choose(&asked, &liked, &[0xc3; 3 * RECORD]), Ok((3, expected.clone())));
@@ -384,9 +393,8 @@ fn ids_are_good(records: &[&[u8]]) -> bool {
 fn answer_to(start: usize, records: &[&[u8]], liked: &[&[u8]]) -> Vec<u8> {
     let asked = records[start];
     let run: Vec<&[u8]> = records.iter().copied().filter(|record| record[0] == asked[0]).collect();
-    let mut answer = vec![asked[0], 3, 0, asked[3]];
-    answer.resize(68, 0);
-    answer.extend_from_slice(&asked[68..]);
+    let mut answer = vec![asked[0], 3];
+    answer.resize(RECORD, 0);
     for like in liked.iter().rev().filter(|like| like[4..68] == asked[4..68]) {
         if run.iter().any(|record| record[68..] == like[68..]) {
             answer[1] = 0;

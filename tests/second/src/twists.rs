@@ -6,6 +6,7 @@ use crate::make::{
 };
 use crate::marks::Marks;
 use crate::random::Random;
+use crate::refused::FAULTS;
 
 /// Whether a plan with one twist stays valid.
 #[derive(Clone, Copy, Debug, PartialEq)]
@@ -88,7 +89,7 @@ pub static BOTH: &[Twist<Plan>] = &[
         insert_anywhere(&mut p.items, node, r);
     }),
     inside("skipped item inside a context", |p, r| {
-        p.with_context(r, |context, r| {
+        p.with_tested(r, |context, r| {
             let node = skipped(r, known_inside(context.kind));
             insert_anywhere(&mut context.inner, node, r);
         });
@@ -166,7 +167,7 @@ pub static BOTH: &[Twist<Plan>] = &[
         p.tail = r.bytes(length);
     }),
     outside("remainder in a context", |p, r| {
-        p.with_context(r, |context, r| {
+        p.with_tested(r, |context, r| {
             let length = r.between(1, 3);
             context.tail = r.bytes(length);
         });
@@ -185,7 +186,7 @@ pub static BOTH: &[Twist<Plan>] = &[
         p.with_item(0x50, |user| user.slip = slip);
     }),
     outside("skipped item passes the end of its context", |p, r| {
-        p.with_context(r, |context, r| {
+        p.with_tested(r, |context, r| {
             let mut node = skipped(r, known_inside(context.kind));
             node.slip = r.pick(&[1, 2, 12, 256]);
             context.inner.push(node);
@@ -261,10 +262,11 @@ pub static BOTH: &[Twist<Plan>] = &[
         p.with_context(r, |context, r| {
             context.head.truncate(r.below(4));
             context.inner.clear();
+            context.tail.clear();
         });
     }),
     outside("context of its four fixed bytes", |p, r| {
-        p.with_context(r, |context, _| context.inner.clear());
+        p.with_tested(r, |context, _| context.inner.clear());
     }),
 ];
 
@@ -331,6 +333,20 @@ pub static RQ: &[Twist<Plan>] = &[
     outside("no 40H", |p, r| {
         p.with_context(r, |context, _| context.inner.retain(|node| node.kind != 0x40));
     }),
+    outside("20H with what a refused 21H may hold", |p, r| {
+        p.with_context(r, |context, r| {
+            context.head[2] = r.between(1, 4) as u8;
+            match r.below(4) {
+                0 => context.inner.clear(),
+                1 => context.inner.retain(|node| node.kind == 0x40),
+                2 => first_of(&mut context.inner, 0x40, |node| node.head.clear()),
+                _ => {
+                    let length = r.between(1, 3);
+                    context.tail = r.bytes(length);
+                }
+            }
+        });
+    }),
 ];
 
 /// Twists of an AC.
@@ -348,7 +364,27 @@ pub static AC: &[Twist<Plan>] = &[
         p.set_title(r, &title);
     }),
     inside("refusing result with a good name", |p, r| {
-        p.with_context(r, |context, r| context.head[2] = r.between(1, 4) as u8);
+        p.with_tested(r, |context, r| context.head[2] = r.between(1, 4) as u8);
+    }),
+    inside("refusing result with a bad name", |p, r| {
+        p.with_tested(r, |context, r| {
+            context.head[2] = r.between(1, 4) as u8;
+            first_of(&mut context.inner, 0x40, |node| node.head = bad_name(r));
+        });
+    }),
+    inside("refusing result with an empty name", |p, r| {
+        p.with_tested(r, |context, r| {
+            context.head[2] = r.between(1, 4) as u8;
+            first_of(&mut context.inner, 0x40, |node| node.head.clear());
+        });
+    }),
+    inside("refusing result, its name behind the context", |p, r| {
+        let place = r.pick(&p.contexts());
+        let context = &mut p.items[place];
+        context.head[2] = r.between(1, 4) as u8;
+        context.inner.clear();
+        context.tail.clear();
+        p.items.insert(place + 1, Node::leaf(0x40, &good_name(r)));
     }),
     inside("all contexts refused", |p, r| {
         for place in p.contexts() {
@@ -359,34 +395,22 @@ pub static AC: &[Twist<Plan>] = &[
         p.with_context(r, |context, r| context.head[2] = r.pick(&[5, 5, 5, 6, 255]));
     }),
     inside("30H inside 21H", |p, r| {
-        p.with_context(r, |context, r| {
+        p.with_tested(r, |context, r| {
             let length = r.below(6);
             let body = r.bytes(length);
             insert_anywhere(&mut context.inner, Node::leaf(0x30, &body), r);
         });
     }),
     outside("30H in place of 40H", |p, r| {
-        p.with_context(r, |context, _| first_of(&mut context.inner, 0x40, |node| node.kind = 0x30));
+        p.with_tested(r, |context, _| first_of(&mut context.inner, 0x40, |node| node.kind = 0x30));
     }),
     outside("no 40H in 21H", |p, r| {
-        p.with_context(r, |context, _| context.inner.clear());
+        p.with_tested(r, |context, _| context.inner.clear());
     }),
     outside("two 40H in 21H", |p, r| {
-        p.with_context(r, |context, r| {
+        p.with_tested(r, |context, r| {
             let name = good_name(r);
             insert_anywhere(&mut context.inner, Node::leaf(0x40, &name), r);
-        });
-    }),
-    outside("refusing result with a bad name", |p, r| {
-        p.with_context(r, |context, r| {
-            context.head[2] = r.between(1, 4) as u8;
-            first_of(&mut context.inner, 0x40, |node| node.head = bad_name(r));
-        });
-    }),
-    outside("refusing result with an empty name", |p, r| {
-        p.with_context(r, |context, r| {
-            context.head[2] = r.between(1, 4) as u8;
-            first_of(&mut context.inner, 0x40, |node| node.head.clear());
         });
     }),
 ];
@@ -500,7 +524,7 @@ pub static ABORT: &[Twist<ShortPlan>] = &[
 /// The names of all twists, for coverage.
 pub fn twist_names() -> Vec<&'static str> {
     let mut names: Vec<&'static str> = Vec::new();
-    for list in [BOTH, RQ, AC].iter() {
+    for list in [BOTH, RQ, AC, FAULTS].iter() {
         names.extend(list.iter().map(|t| t.name));
     }
     for list in [DATA, CONTROL_BITS].iter() {

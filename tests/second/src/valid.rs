@@ -6,7 +6,7 @@ use crate::names::{name_is_valid, title_is_valid};
 /// One limit for the PDU-length of all types.
 pub const LIMIT: u64 = 16_384;
 
-/// A presentation context as read; the abstract name is empty in an AC.
+/// A presentation context as read; in an AC the abstract name is empty, and where it is refused the transfer name too.
 #[derive(Clone, Debug, PartialEq)]
 pub struct Context<'a> {
     pub id: u8,
@@ -204,14 +204,14 @@ fn judge_context<'a>(item: &Item<'a>) -> Result<Context<'a>, Fault> {
     if item.body.len() < 4 {
         return Err("a context shorter than its four fixed bytes");
     }
-    if !is_odd(item.body[0]) {
+    let (fixed, rest) = item.body.split_at(4);
+    if !is_odd(fixed[0]) {
         return Err("an even context ID");
     }
-    let inner = split_items(&item.body[4..], item.at + 4)?;
-    if item.kind == 0x20 {
-        judge_proposed(item.body[0], inner)
-    } else {
-        judge_answered(item.body[0], item.body[2], inner)
+    match (item.kind, fixed[2]) {
+        (0x20, _) => judge_proposed(fixed[0], split_items(rest, item.at + 4)?),
+        (_, 0) => judge_accepted(fixed[0], split_items(rest, item.at + 4)?),
+        (_, result) => judge_refused(fixed[0], result),
     }
 }
 
@@ -227,17 +227,22 @@ fn judge_proposed<'a>(id: u8, inner: Vec<Item<'a>>) -> Result<Context<'a>, Fault
     Ok(Context { id, result: 0, abstract_name, transfers: transfers? })
 }
 
-/// 21H: result 0 to 4 and exactly one 40H.
-fn judge_answered<'a>(id: u8, result: u8, inner: Vec<Item<'a>>) -> Result<Context<'a>, Fault> {
-    if result > 4 {
-        return Err("a context result above 4");
-    }
+/// 21H with result 0: exactly one 40H.
+fn judge_accepted<'a>(id: u8, inner: Vec<Item<'a>>) -> Result<Context<'a>, Fault> {
     let known: Vec<Item> = inner.into_iter().filter(|i| i.kind == 0x40).collect();
     if known.len() != 1 {
         return Err("a 21H without exactly one 40H");
     }
     let transfer = good_name(&known[0], "a bad transfer name")?;
-    Ok(Context { id, result, abstract_name: &[], transfers: vec![transfer] })
+    Ok(Context { id, result: 0, abstract_name: &[], transfers: vec![transfer] })
+}
+
+/// 21H with results 1 to 4: "all that follows the four fixed bytes is left untested" (document 02), so no name is read.
+fn judge_refused<'a>(id: u8, result: u8) -> Result<Context<'a>, Fault> {
+    if result > 4 {
+        return Err("a context result above 4");
+    }
+    Ok(Context { id, result, abstract_name: &[], transfers: vec![&[]] })
 }
 
 /// 50H: exactly one 51H of length 4; answers the maximum length.

@@ -43,13 +43,10 @@ fn name_field(field: &[u8], length: u8) -> Result<&[u8], u8> {
 fn sheet_record(bytes: &[u8]) -> Result<Record<'_>, u8> {
     let abstract_name = name_field(&bytes[4..68], bytes[2])?;
     let transfer = name_field(&bytes[68..132], bytes[3])?;
-    if !name_is_valid(transfer) {
-        return Err(4);
-    }
     Ok(Record { id: bytes[0], result: bytes[1], abstract_name, transfer })
 }
 
-/// At least one record, no part record, each with a transfer name and zeros behind its names.
+/// At least one record, no part record, each with zeros behind its names.
 pub fn sheet_records(sheet: &[u8]) -> Result<Vec<Record<'_>>, u8> {
     if sheet.is_empty() || !sheet.chunks_exact(RECORD).remainder().is_empty() {
         return Err(4);
@@ -57,11 +54,26 @@ pub fn sheet_records(sheet: &[u8]) -> Result<Vec<Record<'_>>, u8> {
     sheet.chunks(RECORD).map(sheet_record).collect()
 }
 
+/// Result 0 and both names, as in a proposal.
+pub fn is_proposed(record: &Record) -> bool {
+    record.result == 0 && name_is_valid(record.abstract_name) && name_is_valid(record.transfer)
+}
+
+/// Result 0 with a transfer name, or 1 to 4 with none; no abstract name.
+fn is_answered(record: &Record) -> bool {
+    let transfer_is_good = match record.result {
+        0 => name_is_valid(record.transfer),
+        1..=4 => record.transfer.is_empty(),
+        _ => false,
+    };
+    transfer_is_good && record.abstract_name.is_empty()
+}
+
 /// The runs of a proposal: records with equal ID and abstract name side by side.
 pub fn runs<'a>(records: Vec<Record<'a>>) -> Result<Vec<Vec<Record<'a>>>, u8> {
     let mut runs: Vec<Vec<Record>> = Vec::new();
     for record in records {
-        if !is_odd(record.id) || record.result != 0 || !name_is_valid(record.abstract_name) {
+        if !is_odd(record.id) || !is_proposed(&record) {
             return Err(4);
         }
         let goes_on =
@@ -90,13 +102,12 @@ fn proposal(sheet: &[u8]) -> Result<Vec<u8>, u8> {
     Ok(items)
 }
 
-/// The 21H items of an answer.
+/// The 21H items of an answer; a refused context has an empty sub-item.
 fn answer(sheet: &[u8]) -> Result<Vec<u8>, u8> {
     let mut items = Vec::new();
     let mut ids = Vec::new();
     for record in sheet_records(sheet)? {
-        let good = is_odd(record.id) && record.result <= 4 && record.abstract_name.is_empty();
-        if !good || ids.contains(&record.id) {
+        if !is_odd(record.id) || !is_answered(&record) || ids.contains(&record.id) {
             return Err(4);
         }
         ids.push(record.id);
