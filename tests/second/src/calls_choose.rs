@@ -3,7 +3,8 @@
 use std::collections::BTreeSet;
 
 use crate::calls_large::all_ids;
-use crate::contents::{Sheet, Twists};
+use crate::choose::choose;
+use crate::contents::{good_ac_contents, Sheet, Twists};
 use crate::fields::{sheet_record, RECORD};
 use crate::generate::{hex, Generator};
 use crate::make::{good_name, name_of_length};
@@ -236,6 +237,21 @@ impl Generator {
         Twists::of_asked().bring_near(&mut proposal, good_proposal, &mut self.random, &mut self.marks);
         Twists::of_site().bring_near(&mut site, good_site, &mut self.random, &mut self.marks);
         self.say_choice(&proposal, &site);
+        if good_proposal && good_site && self.random.chance(20) {
+            self.send_choice(&proposal, &site);
+        }
+    }
+
+    /// The answers chosen are sent.
+    fn send_choice(&mut self, proposal: &Sheet, site: &Sheet) {
+        let mut contents = good_ac_contents(&mut self.random, &mut self.marks);
+        let lent = vec![0; RECORD * proposal.records.len()];
+        if let Ok((count, sheet)) = choose(&proposal.bytes(), &site.bytes(), &lent) {
+            self.mark("C: the answers are sent");
+            contents.sheet = sheet[..RECORD * count].to_vec();
+            let call = self.random.pick(&["2", "a"]);
+            self.send_answer(call, &contents);
+        }
     }
 
     fn say_choice(&mut self, proposal: &Sheet, site: &Sheet) {

@@ -33,6 +33,10 @@ impl Generator {
 
     /// PDUs of 16,384 whose gathered bytes are mostly the buffer's own filler.
     pub fn limit_in_few_words(&mut self) {
+        if self.random.chance(15) {
+            self.filled_by_refused_in_few_words();
+            return;
+        }
         let state = self.random.pick(&[2, 3, 5, 6, 7, 8, 13]);
         let mut nine = self.good_nine(state);
         nine.deaf = false;
@@ -74,6 +78,27 @@ impl Generator {
         bytes
     }
 
+    /// An AC of 16,384 received in Sta5, nearly all of it filler behind a refused context's fixed bytes; seldom result 0.
+    pub fn filled_by_refused_in_few_words(&mut self) {
+        self.mark("large: AC filled by a refused context");
+        let mut nine = self.good_nine(5);
+        nine.gather_length = 16_390;
+        nine.gather = ac_before_rubbish(16_384, self.random.pick(&[0, 1, 2, 3, 4, 4]));
+        nine.gathered = 16_390 - USER.len() as u64;
+        nine.output_length = 10;
+        self.say(format!("r {} {}", nine.text(), hex(&USER)));
+    }
+
+    /// The same AC in full, and one of 16,385, whose rubbish is of any bytes.
+    pub fn full_refused(&mut self, over: usize) {
+        self.mark("large: A with a long refused context");
+        let mut bytes = ac_before_rubbish(16_384 + over, self.random.pick(&[1, 2, 3, 4]));
+        let rubbish = self.random.bytes(16_390 + over - bytes.len() - USER.len());
+        bytes.extend(rubbish);
+        bytes.extend_from_slice(&USER);
+        self.say(format!("A {} 132", hex(&bytes)));
+    }
+
     /// Calls that carry 16,384 and more bytes themselves.
     pub fn limit_in_full(&mut self) {
         let (variant, over) = self.full.take();
@@ -89,6 +114,7 @@ impl Generator {
             7 => self.full_piece(),
             8 => self.full_ac_writing(over),
             9 => self.full_reading("P", "large: P", over),
+            10 => self.full_refused(over),
             _ => self.full_rq_writing(if over == 0 { "1" } else { "c" }, 1, true),
         }
     }
@@ -195,16 +221,43 @@ pub fn all_ids(over: usize) -> Vec<u8> {
     ids.chain((0..over).map(|_| 255)).collect()
 }
 
-/// An AC with a context of each ID given.
-fn ac_of_contexts(ids: &[u8]) -> Vec<u8> {
+/// A 50H with no limit.
+const USER: [u8; 12] = [0x50, 0, 0, 8, 0x51, 0, 0, 4, 0, 0, 0, 0];
+
+/// The fixed part of an AC's body and its 10H.
+fn ac_start() -> Vec<u8> {
     let mut body = vec![0, 1, 0, 0];
     body.extend(vec![b' '; 64]);
     body.extend_from_slice(&[0x10, 0, 0, 1, b'1']);
+    body
+}
+
+/// An AC with a context of each ID given, those refused with a name, an empty one or nothing.
+fn ac_of_contexts(ids: &[u8]) -> Vec<u8> {
+    let mut body = ac_start();
     for id in ids {
-        body.extend_from_slice(&[0x21, 0, 0, 9, *id, 0, id % 5, 0, 0x40, 0, 0, 1, b'2']);
+        let behind: &[u8] = match id % 5 {
+            0 | 1 => &[0x40, 0, 0, 1, b'2'],
+            2 | 3 => &[0x40, 0, 0, 0],
+            _ => &[],
+        };
+        body.extend_from_slice(&[0x21, 0, 0, 4 + behind.len() as u8, *id, 0, id % 5, 0]);
+        body.extend_from_slice(behind);
     }
-    body.extend_from_slice(&[0x50, 0, 0, 8, 0x51, 0, 0, 4, 0, 0, 0, 0]);
+    body.extend_from_slice(&USER);
     write::pdu(2, &body)
+}
+
+/// The first bytes of an AC of a PDU-length: up to the fixed bytes of its one context, which takes all before the 50H.
+fn ac_before_rubbish(length: usize, result: u8) -> Vec<u8> {
+    let mut body = ac_start();
+    let inside = (length - body.len() - 4 - USER.len()) as u16;
+    body.extend_from_slice(&[0x21, 0]);
+    body.extend_from_slice(&inside.to_be_bytes());
+    body.extend_from_slice(&[1, 0, result, 0]);
+    let mut bytes = write::pdu(2, &body);
+    bytes[2..6].copy_from_slice(&(length as u32).to_be_bytes());
+    bytes
 }
 
 /// PDV items of a wanted length in all, in one item.

@@ -40,11 +40,19 @@ impl Generator {
         let (turn, kind) = self.received.take();
         let (state, deaf) = if turn == 14 { (13, true) } else { (turn, false) };
         let bytes = self.pdu_of_turn(kind);
+        self.received_in(state, deaf, &bytes);
+        if self.random.chance(20) {
+            self.follow_up();
+        }
+    }
+
+    /// A framed PDU received in a state, some of its bytes before, perhaps with others behind it.
+    pub fn received_in(&mut self, state: u8, deaf: bool, bytes: &[u8]) {
         let mut nine = self.good_nine(state);
         nine.deaf = deaf;
         nine.gathered = 0;
         nine.gather.clear();
-        let cut = self.cut_of(state, deaf, &bytes);
+        let cut = self.cut_of(state, deaf, bytes);
         nine.gathered = cut as u64;
         nine.gather = bytes[..cut].to_vec();
         nine.output_length = self.random.pick(&[10, 10, 11, 16_390, 16_390, 9]);
@@ -52,9 +60,6 @@ impl Generator {
         let more = self.random.pick(&[0, 0, 1, 6, 10]);
         piece.extend(self.random.bytes(more));
         self.say(format!("r {} {}", nine.text(), hex(&piece)));
-        if self.random.chance(20) {
-            self.follow_up();
-        }
     }
 
     /// How many bytes of a PDU are gathered already.
@@ -355,15 +360,21 @@ impl Generator {
         self.any_machine_call(nine);
     }
 
-    /// A stream of PDUs from a given record on, cut at random, the rest offered again.
-    pub fn cut_stream(&mut self) {
-        let state = self.random.pick(&[2, 3, 5, 6, 7, 8, 9, 10, 11, 12, 13]);
+    /// A record in a state, not deaf, with nothing gathered and room for all.
+    pub fn roomy_nine(&mut self, state: u8) -> Nine {
         let mut nine = self.good_nine(state);
         nine.gathered = 0;
         nine.gather.clear();
         nine.deaf = false;
         nine.gather_length = 16_390;
         nine.output_length = 16_390;
+        nine
+    }
+
+    /// A stream of PDUs from a given record on, cut at random, the rest offered again.
+    pub fn cut_stream(&mut self) {
+        let state = self.random.pick(&[2, 3, 5, 6, 7, 8, 9, 10, 11, 12, 13]);
+        let nine = self.roomy_nine(state);
         self.say(format!("r {} -", nine.text()));
         self.stream.clear();
         for _ in 0..self.random.between(1, 3) {
@@ -389,12 +400,7 @@ impl Generator {
             (18, 2),
             (18, 13),
         ]);
-        let mut nine = self.good_nine(state);
-        nine.gathered = 0;
-        nine.gather.clear();
-        nine.deaf = false;
-        nine.gather_length = 16_390;
-        nine.output_length = 16_390;
+        let nine = self.roomy_nine(state);
         let kind = self.random.between(1, 9) as u8;
         let bytes = self.pdu_of_turn(kind);
         let cut = self.random.between(1, bytes.len() - 1);

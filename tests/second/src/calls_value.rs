@@ -28,9 +28,14 @@ impl Generator {
 
     pub fn call_a(&mut self) {
         let bytes = self.pdu_mostly(2);
-        let needed = read_ac(&bytes, &vec![0; 66_000]).map_or(132, |(fields, _)| 132 * fields.records);
+        let needed = self.ac_room(&bytes);
         let room = self.sheet_room(needed);
         self.say(format!("A {} {}", hex(&bytes), room));
+    }
+
+    /// The bytes of an AC's sheet, or of one record.
+    pub fn ac_room(&self, bytes: &[u8]) -> usize {
+        read_ac(bytes, &vec![0; 66_000]).map_or(132, |(fields, _)| 132 * fields.records)
     }
 
     /// A PDU of the kind asked for, seldom of another.

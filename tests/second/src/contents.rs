@@ -57,6 +57,11 @@ impl Sheet {
         self.with_result(false, random, edit);
     }
 
+    /// Refuses one of the contexts of an answer, unless one is refused.
+    pub fn refuse_one(&mut self, random: &mut Random) {
+        self.with_refused(random, |_, _| {});
+    }
+
     /// Sets the abstract name of one record, and of all that share its ID and abstract name.
     fn set_abstract(&mut self, random: &mut Random, name: &[u8]) {
         let chosen = random.pick(&self.records);
@@ -395,7 +400,12 @@ impl Twists {
     }
 
     fn of_answer() -> Twists {
-        Twists { word: "twist", list: SHEET.iter().chain(ANSWER).chain(REFUSED).collect() }
+        Twists { word: "twist", list: SHEET.iter().chain(ANSWER).collect() }
+    }
+
+    /// Of an answer's refused records, sent by a call.
+    pub fn of_refused(call: &str) -> Twists {
+        Twists { word: if call == "2" { "answer of 2" } else { "answer of a" }, list: REFUSED.iter().collect() }
     }
 
     /// Of a proposal that C answers.
@@ -535,6 +545,7 @@ pub fn bad_ac_contents(random: &mut Random, marks: &mut Marks) -> AcContents {
 
 /// The marks of all sheet twists, for coverage.
 pub fn twist_marks() -> Vec<String> {
-    let all = [Twists::of_proposal(), Twists::of_answer(), Twists::of_asked(), Twists::of_site()];
-    all.iter().flat_map(Twists::names).collect()
+    let sheets = [Twists::of_proposal(), Twists::of_answer(), Twists::of_asked(), Twists::of_site()];
+    let refused = [Twists::of_refused("2"), Twists::of_refused("a")];
+    sheets.iter().chain(&refused).flat_map(Twists::names).collect()
 }

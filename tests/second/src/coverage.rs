@@ -2,6 +2,7 @@
 
 use std::collections::BTreeMap;
 
+use crate::calls_refused;
 use crate::contents;
 use crate::generate::{filled_cells, Generator, BRANCHES};
 use crate::machine::cell;
@@ -109,6 +110,7 @@ fn branches(used: &BTreeMap<String, u64>) -> String {
     let mut all: Vec<String> = BRANCHES.iter().map(|branch| format!("branch: {}", branch.name)).collect();
     all.extend(twists::twist_names().iter().map(|name| format!("twist: {}", name)));
     all.extend(contents::twist_marks());
+    all.extend(calls_refused::behind_marks());
     let missing: Vec<&String> = all.iter().filter(|name| !used.contains_key(*name)).collect();
     let mut text = "branches and twists used\n".to_string();
     for (name, count) in used {

@@ -58,7 +58,7 @@ pub fn hex(bytes: &[u8]) -> String {
     bytes.iter().flat_map(|b| vec![digits[(b >> 4) as usize] as char, digits[(b & 15) as usize] as char]).collect()
 }
 
-/// A branch of the generator: its name, about how often it comes in 4,000 calls, and what it does.
+/// A branch of the generator: its name, about how often it comes in 5,000 calls, and what it does.
 pub struct Branch {
     pub name: &'static str,
     weight: usize,
@@ -94,6 +94,8 @@ pub static BRANCHES: &[Branch] = &[
     Branch { name: "write ABORT", weight: 40, run: Generator::write_abort },
     Branch { name: "C with long sheets", weight: 5, run: Generator::call_c_long },
     Branch { name: "many records", weight: 4, run: Generator::many_records },
+    Branch { name: "AC with refused contexts", weight: 240, run: Generator::refused_contexts },
+    Branch { name: "answer with refused records", weight: 130, run: Generator::refused_records },
     Branch { name: "limit of 16,384 in few words", weight: 36, run: Generator::limit_in_few_words },
     Branch { name: "limit of 16,384 in full", weight: 20, run: Generator::limit_in_full },
     Branch { name: "bad form", weight: 26, run: Generator::bad_form },
@@ -155,7 +157,7 @@ impl Generator {
         let cells = Turns::new(filled_cells(), &mut random);
         let events = Turns::new(pairs(&states, &numbers), &mut random);
         let received = Turns::new(pairs(&states_and_deaf, &kinds), &mut random);
-        let full = Turns::new(pairs(&[0, 1, 2, 3, 4, 5, 6, 7, 8, 9, 10], &[0, 1]), &mut random);
+        let full = Turns::new(pairs(&[0, 1, 2, 3, 4, 5, 6, 7, 8, 9, 10, 11], &[0, 1]), &mut random);
         let rejects = Turns::new(pairs(&[0, 1, 2, 3, 4], &[0, 1, 2, 3, 4, 5, 6, 7, 8, 255]), &mut random);
         let aborts = Turns::new(pairs(&[0, 1, 2, 2, 3], &[0, 1, 2, 3, 4, 5, 6, 7, 255]), &mut random);
         let edges: Vec<u8> = (0..=15).collect();

@@ -4,6 +4,7 @@ mod calls_bad;
 mod calls_choose;
 mod calls_large;
 mod calls_machine;
+mod calls_refused;
 mod calls_value;
 mod choose;
 mod contents;

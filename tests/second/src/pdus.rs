@@ -52,6 +52,12 @@ fn twisted(kind: u8, wants: &[Option<Expect>], random: &mut Random, marks: &mut 
     }
 }
 
+/// Gives an AC with refused contexts one fault, mostly of those that concern them.
+pub fn faulty(plan: &mut Plan, random: &mut Random, marks: &mut Marks) {
+    let lists: &[&[Twist<Plan>]] = if random.chance(80) { &[FAULTS] } else { &[BOTH, AC] };
+    twist(plan, lists, Some(Outside), random, marks);
+}
+
 /// A PDU of a type outside 1..7.
 pub fn unknown_pdu(random: &mut Random, marks: &mut Marks) -> Vec<u8> {
     marks.add("pdu: unknown type");

@@ -1,8 +1,9 @@
 //! Refused contexts for the generator: what stands behind their four fixed bytes, and faults that are still found.
 
 use crate::make::{bad_name, good_name, good_plan, insert_anywhere, name_of_length, skipped, Node, Plan};
+use crate::marks::Marks;
 use crate::random::Random;
-use crate::twists::{inside, outside, Expect, Twist};
+use crate::twists::{inside, outside, seldom_used, Expect, Twist};
 
 /// A 21H with nothing behind its four fixed bytes.
 fn bare(id: u8, result: u8) -> Node {
@@ -219,3 +220,26 @@ pub static FAULTS: &[Twist<Plan>] = &[
         });
     }),
 ];
+
+/// A valid AC with one refused context or more among others; what stands behind them is counted under a word.
+pub fn plan_with_refused(word: &str, random: &mut Random, marks: &mut Marks) -> Plan {
+    let mut plan = good_plan(2, random);
+    for _ in 0..random.pick(&[0, 0, 1, 2]) {
+        plan.add_context(random);
+    }
+    let all: Vec<&Twist<Node>> = BEHIND.iter().collect();
+    let places = plan.contexts();
+    let sure = random.pick(&places);
+    for place in places {
+        let context = &mut plan.items[place];
+        if place == sure || random.chance(40) {
+            *context = bare(context.head[0], random.between(1, 4) as u8);
+            if let Some(behind) = seldom_used(&all, word, random, marks) {
+                (behind.edit)(context, random);
+            }
+        } else {
+            *context = accepted_context(context.head[0], random);
+        }
+    }
+    plan
+}

@@ -427,27 +427,34 @@ fn judged(line: &str) -> String {
     format!("0 {} {}", starts.len(), digest(&sheet))
 }
 
-/// So many C calls, and some with long sheets.
-fn generated(seed: u64, count: usize, long: usize) -> Vec<Call> {
+/// So many C calls, and some with long sheets; apart from them the calls that send what was chosen.
+fn generated(seed: u64, count: usize, long: usize) -> (Vec<Call>, Vec<Call>) {
     let mut generator = Generator::new(seed);
     generator.calls.clear();
     (0..count).for_each(|_| generator.call_c());
     (0..long).for_each(|_| generator.call_c_long());
-    generator.calls.into()
+    generator.calls.into_iter().partition(|call| call.line.starts_with('C'))
 }
 
 #[test]
 fn generated_calls_judged_from_their_bytes() {
-    for call in generated(12, 1_500, 24) {
+    for call in generated(12, 1_500, 24).0 {
         assert_eq!(call.answer, judged(&call.line), "{}", call.line);
     }
+}
+
+#[test]
+fn what_is_chosen_is_good_to_send() {
+    let sent = generated(12, 1_500, 0).1;
+    assert!(sent.len() > 100 && sent.iter().all(|call| [0, 2].contains(&call.last.refusal)));
+    assert!(["2 ", "a "].iter().all(|name| sent.iter().any(|call| call.line.starts_with(name))));
 }
 
 #[test]
 fn every_outcome_is_generated() {
     let mut refusals: BTreeMap<u8, u32> = BTreeMap::new();
     let mut together = BTreeSet::new();
-    for call in generated(1, 400, 0) {
+    for call in generated(1, 400, 0).0 {
         *refusals.entry(call.last.refusal).or_insert(0) += 1;
         together.insert(call.last.results);
     }
