@@ -1,13 +1,18 @@
-//! Tests of refused contexts: what is left untested, what is still tested, how they are sent.
+//! Tests of refused contexts: what is left untested, what is still tested, how they are sent, what the generator reaches.
 
+use std::collections::BTreeMap;
+
+use crate::calls_refused::behind_marks;
 use crate::choose::choose;
+use crate::contents::twist_marks;
 use crate::fields::{kind, read_ac, sheet_record, RECORD};
-use crate::generate::hex;
+use crate::generate::{hex, Call, Generator};
 use crate::judge::lines;
 use crate::machine::{receive, Record};
 use crate::make::Node;
+use crate::names::name_is_valid;
 use crate::random::Random;
-use crate::refused::BEHIND;
+use crate::refused::{BEHIND, FAULTS};
 use crate::replay::{digest, fresh, Replay};
 use crate::tests::check_twists;
 use crate::write;
@@ -430,7 +435,134 @@ fn chosen_answers_that_refuse_carry_no_name_and_can_be_sent() {
     assert_eq!(read(&send(&sheet).unwrap()), Some(expected));
 }
 
-// What the generator makes of them.
+// Generated calls, judged once more from their bytes.
+
+/// The items of some bytes as type and body; None where they don't fill them.
+fn items(mut bytes: &[u8]) -> Option<Vec<(u8, &[u8])>> {
+    let mut found = Vec::new();
+    while let [kind, _, high, low, rest @ ..] = bytes {
+        let length = *high as usize * 256 + *low as usize;
+        found.push((*kind, rest.get(..length)?));
+        bytes = &rest[length..];
+    }
+    if bytes.is_empty() {
+        Some(found)
+    } else {
+        None
+    }
+}
+
+fn all_of(kind: u8, found: &[(u8, &[u8])]) -> Vec<Vec<u8>> {
+    found.iter().filter(|(k, _)| *k == kind).map(|(_, body)| body.to_vec()).collect()
+}
+
+/// The record of a 21H's body.
+fn record_of(body: &[u8]) -> Option<Vec<u8>> {
+    let result = *body.get(2)?;
+    if body.len() < 4 || body[0] % 2 == 0 || result > 4 {
+        return None;
+    }
+    if result > 0 {
+        return Some(refused_record(body[0], result));
+    }
+    match &all_of(0x40, &items(&body[4..])?)[..] {
+        [name] if name_is_valid(name) => Some(sheet_record(body[0], 0, b"", name)),
+        _ => None,
+    }
+}
+
+/// The sheet of an AC, from its bytes; None where it is invalid.
+fn sheet_of(pdu: &[u8]) -> Option<Vec<u8>> {
+    let length = pdu.len().checked_sub(6)?;
+    if pdu[0] != 2 || !(68..=16_384).contains(&length) || pdu[2..6] != (length as u32).to_be_bytes() || pdu[7] & 1 == 0
+    {
+        return None;
+    }
+    let known: Vec<(u8, &[u8])> =
+        items(&pdu[74..])?.into_iter().filter(|(kind, _)| [0x10, 0x21, 0x50].contains(kind)).collect();
+    let (first, last) = (known.first()?, known.last()?);
+    let between = known.get(1..known.len() - 1)?;
+    let maximum = all_of(0x51, &items(last.1)?);
+    let frame_is_good = first.0 == 0x10 && name_is_valid(first.1) && last.0 == 0x50;
+    if !frame_is_good || between.is_empty() || maximum.len() != 1 || maximum[0].len() != 4 {
+        return None;
+    }
+    let records: Option<Vec<Vec<u8>>> =
+        between.iter().map(|(kind, body)| if *kind == 0x21 { record_of(body) } else { None }).collect();
+    let records = records?;
+    let again = |i: usize| records[..i].iter().any(|record| record[0] == records[i][0]);
+    if (0..records.len()).any(again) {
+        None
+    } else {
+        Some(records.concat())
+    }
+}
+
+/// Whether an answer's sheet may be sent, from its bytes.
+fn answer_is_good(sheet: &[u8]) -> bool {
+    let records: Vec<&[u8]> = sheet.chunks(RECORD).collect();
+    let record_is_good = |i: usize| {
+        let (record, length) = (records[i], records[i][3] as usize);
+        let name_is_good = if record[1] == 0 {
+            length <= 64 && name_is_valid(&record[68..68 + length]) && record[68 + length..].iter().all(|b| *b == 0)
+        } else {
+            length == 0 && record[68..].iter().all(|b| *b == 0)
+        };
+        let first = records.iter().position(|other| other[0] == record[0]) == Some(i);
+        first
+            && name_is_good
+            && record[0] % 2 == 1
+            && record[1] < 5
+            && record[2..3].iter().chain(&record[4..68]).all(|b| *b == 0)
+    };
+    !sheet.is_empty() && sheet.len() % RECORD == 0 && (0..records.len()).all(record_is_good)
+}
+
+fn bytes_of(word: &str) -> Vec<u8> {
+    let digits = if word == "-" { "" } else { word };
+    (0..digits.len() / 2).map(|i| u8::from_str_radix(&digits[2 * i..2 * i + 2], 16).unwrap()).collect()
+}
+
+/// So many calls of the two branches, and the generator with its marks.
+fn generated(seed: u64, count: usize) -> (Vec<Call>, Generator) {
+    let mut generator = Generator::new(seed);
+    generator.calls.clear();
+    for _ in 0..count {
+        generator.refused_contexts();
+        generator.refused_records();
+    }
+    (generator.calls.drain(..).collect(), generator)
+}
+
+#[test]
+fn generated_calls_judged_from_their_bytes() {
+    let mut judged = BTreeMap::new();
+    for call in generated(21, 1_500).0 {
+        let words: Vec<&str> = call.line.split(' ').collect();
+        let agrees = match words[0] {
+            "A" => {
+                let room: usize = words[2].parse().unwrap();
+                match sheet_of(&bytes_of(words[1])) {
+                    None => call.last.refusal == 7,
+                    Some(sheet) if room < sheet.len() => call.last.refusal == 2,
+                    Some(mut sheet) => {
+                        sheet.resize(room, 0xc3);
+                        call.last.refusal == 0 && call.answer.ends_with(&format!(" {}", digest(&sheet)))
+                    }
+                }
+            }
+            "K" => (call.last.kind == 2) == sheet_of(&bytes_of(words[1])).is_some(),
+            "2" | "a" => {
+                let sheet = bytes_of(words[if words[0] == "2" { 3 } else { 12 }]);
+                answer_is_good(&sheet) || call.last.refusal == 4
+            }
+            _ => continue,
+        };
+        assert!(agrees, "{} {}", call.line, call.answer);
+        *judged.entry(words[0].to_string()).or_insert(0) += 1;
+    }
+    assert!(judged.len() == 4 && judged.values().all(|count| *count > 200), "{:?}", judged);
+}
 
 #[test]
 fn what_the_generator_puts_behind() {
@@ -446,4 +578,84 @@ fn what_the_generator_puts_behind() {
             assert!(valid(&refused), "{}", twist.name);
         }
     }
+}
+
+/// What stands behind the four fixed bytes of a context.
+fn edge(behind: &[u8]) -> &'static str {
+    match (behind, items(behind)) {
+        ([], _) => "nothing",
+        ([0x40, _, 0, 0], _) => "an empty name",
+        ([_] | [_, _] | [_, _, _], _) => "a remainder alone",
+        (_, None) => "not filled",
+        (_, Some(found)) => match &all_of(0x40, &found)[..] {
+            [] => "no 40H",
+            [name] if name_is_valid(name) => "a good name",
+            [_] => "a bad name",
+            _ => "several 40H",
+        },
+    }
+}
+
+/// The edges of an AC's refused contexts.
+fn edges(pdu: &[u8]) -> Vec<&'static str> {
+    let top = items(&pdu[74..]).unwrap_or_default();
+    let contexts = all_of(0x21, &top);
+    contexts.iter().filter(|body| (1..5).contains(&body[2])).map(|body| edge(&body[4..])).collect()
+}
+
+#[test]
+fn every_edge_is_generated() {
+    let (calls, generator) = generated(1, 1_500);
+    let faults = FAULTS.iter().map(|twist| format!("twist: {}", twist.name));
+    let sheets = twist_marks().into_iter().filter(|mark| mark.starts_with("answer of "));
+    for mark in behind_marks().into_iter().chain(faults).chain(sheets) {
+        assert!(generator.marks.count(&mark) > 3, "{}", mark);
+    }
+    // By the bytes: read by A, judged by K, taken in Sta5.
+    let mut met: BTreeMap<(&str, &str), u32> = BTreeMap::new();
+    for call in &calls {
+        let words: Vec<&str> = call.line.split(' ').collect();
+        let (name, pdu) = match words[0] {
+            "A" if call.last.refusal == 0 => ("A", bytes_of(words[1])),
+            "K" if call.last.kind == 2 => ("K", bytes_of(words[1])),
+            "r" if call.last.answer.action == 3 && words[1] == "5" => {
+                let gathered: usize = words[2].parse().unwrap();
+                ("r", [&bytes_of(words[8])[..gathered], &bytes_of(words[10])].concat())
+            }
+            _ => continue,
+        };
+        let whole = 6 + u16::from_be_bytes([pdu[4], pdu[5]]) as usize;
+        for edge in edges(&pdu[..whole]) {
+            *met.entry((name, edge)).or_insert(0) += 1;
+        }
+    }
+    assert!(met.len() == 3 * 8 && met.values().all(|count| *count > 3), "{:?}", met);
+    let refused =
+        |name: &str| calls.iter().filter(|call| call.line.starts_with(name) && call.last.refusal == 4).count();
+    let sent = |name: &str| calls.iter().filter(|call| call.line.starts_with(name) && call.last.refusal == 0).count();
+    assert!(["2 ", "a "].iter().all(|name| refused(name) > 100 && sent(name) > 50));
+}
+
+#[test]
+fn long_refused_contexts_are_generated() {
+    let mut generator = Generator::new(4);
+    generator.calls.clear();
+    (0..24).for_each(|_| generator.limit_in_full());
+    (0..120).for_each(|_| generator.limit_in_few_words());
+    let met = |call: &str, done: &dyn Fn(&Call) -> bool| {
+        generator.calls.iter().filter(|c| c.line.starts_with(call) && done(c)).count()
+    };
+    // PDU-lengths 16,384 and 16,385; received with results 1 to 4, and 0.
+    assert_eq!((met("A ", &|call| call.last.refusal == 0), met("A ", &|call| call.last.refusal == 7)), (1, 1));
+    let filled = |action: u8| met("r 5 16378 ", &|call| call.last.answer.action == action);
+    assert!(filled(3) > 5 && filled(28) > 0, "{} {}", filled(3), filled(28));
+}
+
+#[test]
+fn calls_with_refused_contexts_come_often() {
+    let mut generator = Generator::new(6);
+    (0..2_000).for_each(|_| drop(generator.next()));
+    let often = |name: &str| generator.marks.count(&format!("branch: {}", name));
+    let (read, sent) = (often("AC with refused contexts"), often("answer with refused records"));
+    assert!(read > 60 && sent > 30 && generator.marks.count("C: the answers are sent") > 5, "{} {}", read, sent);
 }
