@@ -18,8 +18,8 @@
 #include <stdint.h>
 #include <string.h>
 
-/* The version. While it begins with 0 its second number grows with every change of a call or a name. */
-#define FEO_VERSION "0.5.0"
+/* The version. While it begins with 0 its second number grows with every change of a call, a name or what a record holds. */
+#define FEO_VERSION "0.6.0"
 
 /* Room for any PDU that is received or sent. feo_receive asks it of its gather buffer. */
 #define FEO_BUFFER 16390
@@ -35,7 +35,7 @@
 #define FEO_ECHOED_AT 10
 #define FEO_ECHOED_LEN 64
 
-/* A record of a sheet, its places, and the longest name; behind a name its field is zero. feo_put_record writes one. */
+/* A record of a sheet, its places, and the longest name; what a name leaves of its field is zero. feo_put_record writes one. */
 #define FEO_RECORD_LEN 132
 #define FEO_RECORD_ID_AT 0
 #define FEO_RECORD_RESULT_AT 1
@@ -118,7 +118,7 @@ enum feo_refusal_number {
     FEO_NO_SUCH_PDU = 7     /* the bytes are no whole valid PDU of the kind that is read */
 };
 
-/* Results of a context in an answer (PS3.8 Table 9-18). */
+/* Results of a context in an answer (PS3.8 Table 9-18). By 1 to 4 it is refused, and its record has no transfer name. */
 enum feo_context_result_number {
     FEO_CONTEXT_ACCEPTED = 0,
     FEO_CONTEXT_USER_REJECTION = 1,
@@ -343,7 +343,10 @@ static inline uint8_t feo_confirm(
     return feo_told(r, refusal, answer);
 }
 
-/* Accepts: sends an A-ASSOCIATE-AC. echoed: the FEO_ECHOED_LEN bytes at FEO_ECHOED_AT of the RQ; the sheet is an answer. */
+/*
+ * Accepts: sends an A-ASSOCIATE-AC. echoed: the FEO_ECHOED_LEN bytes at FEO_ECHOED_AT of the RQ; the sheet is an answer. A refused
+ * record goes out with an empty transfer syntax sub-item: 4 where its transfer length or a byte of that field is not 0.
+ */
 static inline uint8_t feo_accept(
     struct feo_assoc *a, const uint8_t *echoed, size_t echoed_len, const uint8_t *application, size_t application_len,
     const uint8_t *sheet, size_t sheet_len, const uint8_t *gather, size_t gather_len, uint8_t *out, size_t out_len,
@@ -391,7 +394,11 @@ static inline uint8_t feo_read_request(const uint8_t *pdu, size_t pdu_len, uint8
         &f->version, &f->application_at, &f->application_len, &f->maximum, &f->records);
 }
 
-/* Reads an A-ASSOCIATE-AC and fills the sheet, a record for each context. */
+/*
+ * Reads an A-ASSOCIATE-AC and fills the sheet, a record for each context. Look at the result first: a refused one has transfer
+ * length 0, also where the peer sent a name, since what stands behind its result is not tested. feo_accept takes what was filled
+ * here: FEO_BUFFER is room enough, though each refused context may come out up to 4 bytes longer.
+ */
 static inline uint8_t feo_read_accept(const uint8_t *pdu, size_t pdu_len, uint8_t *sheet, size_t sheet_len, struct feo_associate *f)
 {
     return feo_raw_read_accept(
@@ -438,8 +445,8 @@ static inline uint8_t feo_title_known(const uint8_t *own, size_t own_len, const 
 /*
  * Chooses the answer to a proposal and fills answer from its start, a record for each context, in the proposal's order; *records
  * is how many. Result 0 with the transfer name of the first site record that has the context's abstract name and one of its
- * transfer names; where there is none, its first proposed transfer name, with result 3 where its abstract name is on no site
- * record, else 4. site: one or more records, best liked first, ID and result 0, names as in a proposal.
+ * transfer names; where there is none, no transfer name, with result 3 where its abstract name is on no site record, else 4.
+ * site: one or more records, best liked first, ID and result 0, names as in a proposal.
  *
  * Refused by 4 for either bad sheet, then by 2 where answer has less than FEO_RECORD_LEN for each context; FEO_ANSWER_ROOM is
  * always enough. What feo_read_request filled is never refused: a 4 behind it is the site's. feo_choose, and then feo_accept, is
@@ -504,8 +511,8 @@ static inline const char *feo_event_name(uint8_t event)
 
 /*
  * Writes one record of a sheet, FEO_RECORD_LEN bytes: of a proposal (result 0) for feo_confirm, of a site's sheet (ID and result 0)
- * for feo_choose, of an answer (an empty abstract name) for feo_accept. 4, and nothing is written, where a name is longer than
- * FEO_NAME_MAX; all else about a record those calls test.
+ * for feo_choose, of an answer (an empty abstract name, and where it is refused an empty transfer name too) for feo_accept. 4, and
+ * nothing is written, where a name is longer than FEO_NAME_MAX; all else about a record those calls test.
  */
 static inline uint8_t feo_put_record(
     uint8_t *record, uint8_t id, uint8_t result, const void *abstract, size_t abstract_len, const void *transfer, size_t transfer_len)
