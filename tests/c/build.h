@@ -114,18 +114,36 @@ static inline void request(struct bytes *pdu, unsigned version, const char *appl
     whole(pdu, 1, &b);
 }
 
-/* An AC with one context, ID 1, of this result. */
-static inline void acceptance(struct bytes *pdu, unsigned version, unsigned result, size_t maximum)
+/* A 21H: its four fixed bytes (ID, reserved, result, reserved), and what stands behind them. */
+static inline void add_context(struct bytes *b, size_t fixed, const void *behind, size_t n)
 {
-    struct bytes b, context;
-    b.n = context.n = 0;
+    struct bytes context;
+    context.n = 0;
+    add_four(&context, fixed);
+    add(&context, behind, n);
+    add_item(b, 0x21, context.at, context.n);
+}
+
+/* An AC with these contexts, each an item. */
+static inline void accepting(struct bytes *pdu, unsigned version, const struct bytes *contexts, size_t maximum)
+{
+    struct bytes b;
+    b.n = 0;
     add_fixed(&b, version);
     add_name(&b, 0x10, APPLICATION);
-    add_four(&context, 0x01000000 | (size_t)result << 8);
-    add_name(&context, 0x40, IMPLICIT);
-    add_item(&b, 0x21, context.at, context.n);
+    add(&b, contexts->at, contexts->n);
     add_user(&b, maximum);
     whole(pdu, 2, &b);
+}
+
+/* An AC with one context, ID 1, of this result; with an empty name where that refuses it. */
+static inline void acceptance(struct bytes *pdu, unsigned version, unsigned result, size_t maximum)
+{
+    struct bytes contexts, name;
+    contexts.n = name.n = 0;
+    add_name(&name, 0x40, result == 0 ? IMPLICIT : "");
+    add_context(&contexts, 0x01000000 | (size_t)result << 8, name.at, name.n);
+    accepting(pdu, version, &contexts, maximum);
 }
 
 /* A PDV item: four-byte length, ID, control byte, fragment. */

@@ -1,6 +1,7 @@
 /*
  * Calls every function of include/feohanna.h, good and refused. Each call runs in a world with guard bytes, of which a copy says what
- * it is to become: whatever a call changes beyond that shows. Expected values are document 01's. In the common part of C99 and C++.
+ * it is to become: whatever a call changes beyond that shows. Expected values are those of documents 01 and 02. In the common part
+ * of C99 and C++.
  */
 #include "build.h"
 #include "check.h"
@@ -516,10 +517,10 @@ static int shows(unsigned action)
 /* Every kind of PDU in every state. */
 static void received(void)
 {
-    static struct bytes pdus[9];
-    static const uint8_t rows[9] = {
+    static struct bytes pdus[11];
+    static const uint8_t rows[11] = {
         FEO_RQ_RECEIVED, FEO_AC_RECEIVED, FEO_RJ_RECEIVED, FEO_DATA_RECEIVED, FEO_RELEASE_RQ_RECEIVED, FEO_RELEASE_RP_RECEIVED,
-        FEO_ABORT_RECEIVED, FEO_INVALID_RECEIVED, FEO_INVALID_RECEIVED
+        FEO_ABORT_RECEIVED, FEO_AC_RECEIVED, FEO_INVALID_RECEIVED, FEO_INVALID_RECEIVED, FEO_INVALID_RECEIVED
     };
     unsigned state, requestor, k;
     request(&pdus[0], 1, APPLICATION, ECHO_CLASS, IMPLICIT);
@@ -529,15 +530,20 @@ static void received(void)
     ten(&pdus[4], 5, 0xDE, 0xAD, 0xBE, 0xEF);
     ten(&pdus[5], 6, 1, 2, 3, 4);
     ten(&pdus[6], 7, 9, 9, 2, 6);
-    ten(&pdus[7], 5, 0, 0, 0, 0);
-    pdus[7].at[5] = 3;
-    pdus[7].n = 9;
-    ten(&pdus[8], 0, 0, 0, 0, 0);
+    /* an AC with an empty name: its context refused, and accepted; its result is byte 105 */
+    acceptance(&pdus[7], 1, 3, 5000);
+    acceptance(&pdus[8], 1, 3, 5000);
+    CHECK(pdus[8].at[105] == 3);
+    pdus[8].at[105] = 0;
+    ten(&pdus[9], 5, 0, 0, 0, 0);
+    pdus[9].at[5] = 3;
+    pdus[9].n = 9;
+    ten(&pdus[10], 0, 0, 0, 0, 0);
     for (state = 1; state <= 13; state++)
         for (requestor = 0; requestor < 2; requestor++)
-            for (k = 0; k < 9; k++) {
+            for (k = 0; k < 11; k++) {
                 unsigned action = cell(rows[k], state);
-                const uint8_t *sent = action == FEO_AA_1 ? ABORT_USER : k < 7 ? ABORT_UNEXPECTED : k == 7 ? ABORT_INVALID : ABORT_UNRECOGNIZED;
+                const uint8_t *sent = action == FEO_AA_1 ? ABORT_USER : k < 8 ? ABORT_UNEXPECTED : k < 10 ? ABORT_INVALID : ABORT_UNRECOGNIZED;
                 size_t n = action == FEO_AA_1 || action == FEO_AA_7 || action == FEO_AA_8 ? 10 : 0;
                 given(state);
                 w.a.requestor = state == 1 ? 0 : (uint8_t)(requestor * 0x80);
@@ -751,6 +757,8 @@ static void contents(void)
     bad_accept(4);
     answers.n = 0;
     bad_accept(4);
+    add_record(&answers, 3, 0, "", "");
+    bad_accept(4);
     /* 128 contexts of 64-byte names are too long for one PDU; with one bad record at the end 4 comes first */
     proposal.n = 0;
     for (i = 0; i < 128; i++)
@@ -945,7 +953,7 @@ static void reading(void)
     CHECK(feo_read_accept(pdu.at, pdu.n, room, FEO_RECORD_LEN, &f) == 0 && f.version == 1 && f.maximum == 7 && f.records == 1);
     CHECK(memcmp(pdu.at + f.application_at, APPLICATION, f.application_len) == 0 && f.application_len == strlen(APPLICATION));
     sheet.n = 0;
-    add_record(&sheet, 1, 4, "", IMPLICIT);
+    add_record(&sheet, 1, 4, "", "");
     CHECK(memcmp(room, sheet.at, FEO_RECORD_LEN) == 0 && room[FEO_RECORD_LEN] == 0xEE);
     acceptance(&pdu, 2, 0, 7);
     memset(&f, 0xEE, sizeof f);
@@ -1148,14 +1156,17 @@ static void records(void)
     REFUSED(confirm(0, FEO_BUFFER), 4);
     CHECK(feo_put_record(proposal.at, 1, 0, "1.", 2, IMPLICIT, strlen(IMPLICIT)) == 0);
     REFUSED(confirm(0, FEO_BUFFER), 4);
-    /* an answer, by each result */
+    /* an answer, by each result: the refused ones without a name; one with a name is left to feo_accept */
     for (i = 0; i < sizeof results; i++) {
         answers.n = FEO_RECORD_LEN;
-        CHECK(feo_put_record(answers.at, 1, results[i], NULL, 0, IMPLICIT, strlen(IMPLICIT)) == 0);
+        CHECK(feo_put_record(answers.at, 1, results[i], NULL, 0, i == 0 ? IMPLICIT : NULL, i == 0 ? strlen(IMPLICIT) : 0) == 0);
         acceptance(&pdu, 1, (unsigned)i, 16384);
         memcpy(pdu.at + 10, echoed.at, 64);
         given(3);
         LOCAL(accept_it(0, FEO_BUFFER), FEO_AE_7, 6, pdu.at, pdu.n);
+        CHECK(feo_put_record(answers.at, 1, results[i], NULL, 0, i == 0 ? NULL : IMPLICIT, i == 0 ? 0 : strlen(IMPLICIT)) == 0);
+        given(3);
+        REFUSED(accept_it(0, FEO_BUFFER), 4);
     }
     /* the greatest answer: 128 contexts */
     b.n = answers.n = 0;
@@ -1181,9 +1192,282 @@ static void records(void)
     good_contents();
 }
 
+/* ---- refused contexts (document 02, E2) */
+
+#define NAMED "\x40\x00\x00\x11" IMPLICIT
+#define BEHIND(bytes, taken) { bytes, sizeof(bytes) - 1, taken }
+
+/* What stands behind the four fixed bytes of a 21H, and whether an accepted context is taken with it, as IMPLICIT; a refused one is with all. */
+static const struct {
+    const char *bytes;
+    size_t n;
+    int taken;
+} behind[] = {
+    BEHIND(NAMED, 1),
+    BEHIND("\x33\xFF\x00\x01z" NAMED "\x30\x00\x00\x00", 1), /* among types that are skipped */
+    BEHIND("", 0),
+    BEHIND("\x40\x00\x00\x00", 0),
+    BEHIND("\x40\x00\x00\x04" "1.02", 0),
+    BEHIND("\x40\x00\x00\x41" "1" SIXTY_FOUR, 0),
+    BEHIND(NAMED NAMED, 0),
+    BEHIND(NAMED "\x40\x00\x00\x00", 0),
+    BEHIND("\x30\x00\x00\x11" IMPLICIT, 0),
+    /* not filled: a name that passes the end, remainders */
+    BEHIND("\x40\x00\x00\x12" IMPLICIT, 0),
+    BEHIND("\x40\x00\xFF\xFF", 0),
+    BEHIND("\x40", 0),
+    BEHIND("\x40\x00", 0),
+    BEHIND("\x40\x00\x00", 0),
+    BEHIND(NAMED "\x00", 0),
+    BEHIND(NAMED "\x33\x00\x00", 0),
+    BEHIND("\xFF\xFE\xFD\xFC\xFB\xFA\xF9", 0),
+    /* what would be a second 50H, or an ID that comes again, at the top */
+    BEHIND("\x50\x00\x00\x08\x51\x00\x00\x04\x00\x00\x00\x07", 0),
+    BEHIND("\x21\x00\x00\x04\x01\x00\x03\x00", 0)
+};
+
+#define BEHIND_COUNT (sizeof behind / sizeof *behind)
+
+/*
+ * This AC, of maximum 5,000, reads into this sheet, and is taken in Sta5. From the sheet it is written again, at most 4 bytes longer
+ * for each refused context, and reads so again.
+ */
+static void is_read(int line, const struct bytes *ac, const struct bytes *sheet)
+{
+    static uint8_t room[FEO_ANSWER_ROOM + 64];
+    static struct bytes again;
+    struct feo_associate f;
+    size_t i, refused = 0;
+    uint8_t got;
+    memset(room, 0xEE, sizeof room);
+    memset(&f, 0xEE, sizeof f);
+    unread(line, feo_read_accept(ac->at, ac->n, room, sheet->n - 1, &f), 2, &f, room, sheet->n);
+    check(line, feo_read_accept(ac->at, ac->n, room, sheet->n, &f) == 0, "the AC is read");
+    check(line, f.version == 1 && f.maximum == 5000 && f.records * FEO_RECORD_LEN == sheet->n, "version, maximum, count of records");
+    check(line, f.application_len == strlen(APPLICATION) && memcmp(ac->at + f.application_at, APPLICATION, f.application_len) == 0, "the application context name");
+    check(line, memcmp(room, sheet->at, sheet->n) == 0, "the sheet");
+    for (i = 0; i < 64; i++)
+        check(line, room[sheet->n + i] == 0xEE, "behind the sheet nothing is written");
+    given(5);
+    w.a.requestor = 1;
+    heard(line, ac->at, ac->n, FEO_AE_3, 6, ac->n, 0, 0, ac->n);
+    check(line, w.a.peer_max == 5000, "the peer's maximum");
+    of_sheet(&again, 2, sheet);
+    for (i = 0; i < sheet->n; i += FEO_RECORD_LEN)
+        refused += sheet->at[i + FEO_RECORD_RESULT_AT] != FEO_CONTEXT_ACCEPTED;
+    check(line, again.n <= ac->n + 4 * refused, "written again it is little longer");
+    given(3);
+    before();
+    got = feo_accept(
+        &w.a, ac->at + FEO_ECHOED_AT, FEO_ECHOED_LEN, ac->at + f.application_at, f.application_len, room, sheet->n,
+        w.gather, FEO_BUFFER, w.out, FEO_BUFFER, &w.r);
+    local(line, got, FEO_AE_7, 6, again.at, again.n);
+    memset(room, 0xEE, sizeof room);
+    check(line, feo_read_accept(w.out, w.r.sent, room, sheet->n, &f) == 0 && memcmp(room, sheet->at, sheet->n) == 0, "it reads as before");
+}
+
+/* An AC with these contexts is none: it is not read, and in Sta5 it is an invalid PDU. */
+static void is_none(int line, const struct bytes *contexts)
+{
+    static struct bytes ac;
+    uint8_t room[3 * FEO_RECORD_LEN];
+    struct feo_associate f;
+    accepting(&ac, 1, contexts, 5000);
+    memset(room, 0xEE, sizeof room);
+    memset(&f, 0xEE, sizeof f);
+    unread(line, feo_read_accept(ac.at, ac.n, room, sizeof room, &f), 7, &f, room, sizeof room);
+    given(5);
+    heard(line, ac.at, ac.n, FEO_AA_8, 13, ac.n, ABORT_INVALID, 10, 0);
+}
+
+/* Context 1 with this result and this behind it: in an AC by itself, before an accepted context, and behind one. */
+static void behind_it(unsigned answered, size_t k)
+{
+    static struct bytes contexts, ac, sheet;
+    unsigned place;
+    for (place = 0; place < 3; place++) {
+        contexts.n = sheet.n = 0;
+        if (place == 2) {
+            add_context(&contexts, 0x03000000, NAMED, sizeof NAMED - 1);
+            add_record(&sheet, 3, 0, "", IMPLICIT);
+        }
+        add_context(&contexts, 0x01FF00FF | (size_t)answered << 8, behind[k].bytes, behind[k].n);
+        add_record(&sheet, 1, answered, "", answered == 0 ? IMPLICIT : "");
+        if (place == 1) {
+            add_context(&contexts, 0x05000000, NAMED, sizeof NAMED - 1);
+            add_record(&sheet, 5, 0, "", IMPLICIT);
+        }
+        accepting(&ac, 1, &contexts, 5000);
+        if (answered <= 4 && (answered != 0 || behind[k].taken))
+            is_read(__LINE__, &ac, &sheet);
+        else
+            is_none(__LINE__, &contexts);
+    }
+}
+
+/* A refused context: what stands behind its four fixed bytes is not tested, and its record has no name; all else is as with an accepted one. */
+static void refused_read(void)
+{
+    static const uint8_t lengths[] = { 4, 8 + 12, 8 + 13 }, rubbish[16271] = { 0x40, 0, 0xFF };
+    static struct bytes contexts, ac, sheet;
+    unsigned answered, id, k;
+    size_t i;
+    for (answered = 0; answered < 7; answered++)
+        for (i = 0; i < BEHIND_COUNT; i++)
+            behind_it(answered, i);
+    behind_it(128 + 3, 3);
+    behind_it(255, 0);
+    /* received in two pieces, cut at each place */
+    acceptance(&ac, 1, 3, 5000);
+    for (i = 1; i < ac.n; i++) {
+        given(5);
+        heard(__LINE__, ac.at, i, 0, 5, i, 0, 0, 0);
+        heard(__LINE__, ac.at + i, ac.n - i, FEO_AE_3, 6, ac.n - i, 0, 0, ac.n);
+    }
+    /* a 21H of less than four bytes, by itself and with another context */
+    for (i = 0; i < 4; i++)
+        for (k = 0; k < 2; k++) {
+            contexts.n = 0;
+            add_item(&contexts, 0x21, "\x01\x00\x03", i);
+            if (k == 1)
+                add_context(&contexts, 0x03000400, "", 0);
+            is_none(__LINE__, &contexts);
+        }
+    /* IDs: each even one; each that comes again, next to the first and not, with every two results */
+    for (id = 0; id < 256; id++) {
+        contexts.n = sheet.n = 0;
+        add_context(&contexts, (size_t)id << 24 | 0x200, "", 0);
+        add_record(&sheet, id, 2, "", "");
+        accepting(&ac, 1, &contexts, 5000);
+        if (id % 2 == 1)
+            is_read(__LINE__, &ac, &sheet);
+        else
+            is_none(__LINE__, &contexts);
+    }
+    for (answered = 0; answered < 25; answered++)
+        for (k = 0; k < 2; k++) {
+            contexts.n = 0;
+            add_context(&contexts, 0x07000000 | (size_t)(answered / 5) << 8, NAMED, sizeof NAMED - 1);
+            if (k == 1)
+                add_context(&contexts, 0x09000100, "", 0);
+            add_context(&contexts, 0x07000000 | (size_t)(answered % 5) << 8, NAMED, sizeof NAMED - 1);
+            is_none(__LINE__, &contexts);
+        }
+    /* its length is the way to the next item: into a 40H that is skipped, over the 50H (12 bytes), past the PDU's end */
+    for (i = 0; i < sizeof lengths; i++) {
+        contexts.n = sheet.n = 0;
+        add_context(&contexts, 0x01000300, "\x40\x00\x00\x00", 4);
+        contexts.at[3] = lengths[i];
+        add_record(&sheet, 1, 3, "", "");
+        accepting(&ac, 1, &contexts, 5000);
+        if (i == 0)
+            is_read(__LINE__, &ac, &sheet);
+        else
+            is_none(__LINE__, &contexts);
+    }
+    /* the greatest AC, with one context; the most contexts, all without a sub-item, and with the longest names */
+    contexts.n = sheet.n = 0;
+    add_context(&contexts, 0x01000100, rubbish, sizeof rubbish);
+    add_record(&sheet, 1, 1, "", "");
+    accepting(&ac, 1, &contexts, 5000);
+    CHECK(ac.n == FEO_BUFFER);
+    is_read(__LINE__, &ac, &sheet);
+    for (k = 0; k < 2; k++) {
+        contexts.n = sheet.n = 0;
+        for (id = 1; id < 256; id += 2) {
+            int refuses = k == 0 || id == 255;
+            add_context(&contexts, (size_t)id << 24 | (refuses ? 0x400 : 0), "\x40\x00\x00\x40" SIXTY_FOUR, refuses ? 0 : 68);
+            add_record(&sheet, id, refuses ? 4 : 0, "", refuses ? "" : SIXTY_FOUR);
+        }
+        accepting(&ac, 1, &contexts, 5000);
+        is_read(__LINE__, &ac, &sheet);
+        CHECK(w.r.sent == ac.n + (k == 0 ? 4 * 128 : 4));
+    }
+    good_contents();
+}
+
+/* This record among good ones, at each place. */
+static void bad_among(const uint8_t *record)
+{
+    unsigned place;
+    for (place = 0; place < 3; place++) {
+        answers.n = 0;
+        add_record(&answers, 1, 0, "", IMPLICIT);
+        add_record(&answers, 3, 1, "", "");
+        add_record(&answers, 5, 4, "", "");
+        memcpy(answers.at + place * FEO_RECORD_LEN, record, FEO_RECORD_LEN);
+        bad_accept(4);
+    }
+}
+
+/* A refused record to be sent has no transfer name, and goes out with an empty sub-item; else 4, and nothing changes. */
+static void refused_sent(void)
+{
+    static const char *const names[] = { "0", IMPLICIT, SIXTY_FOUR, "1.02", "." };
+    static struct bytes pdu, record;
+    unsigned answered, v;
+    size_t i;
+    for (answered = 1; answered <= 4; answered++) {
+        uint8_t item[12] = { 0x21, 0, 0, 8, 9, 0, 0, 0, 0x40, 0, 0, 0 };
+        item[6] = (uint8_t)answered;
+        answers.n = 0;
+        add_record(&answers, 9, answered, "", "");
+        of_sheet(&pdu, 2, &answers);
+        memcpy(pdu.at + FEO_ECHOED_AT, echoed.at, FEO_ECHOED_LEN);
+        CHECK(pdu.n == 123 && memcmp(pdu.at + 99, item, 12) == 0);
+        given(3);
+        REFUSED(accept_it(0, 122), 2);
+        LOCAL(accept_it(0, 123), FEO_AE_7, 6, pdu.at, 123);
+        REFUSED(accept_it(0, FEO_BUFFER), 1);
+        /* with a name */
+        for (i = 0; i < sizeof names / sizeof *names; i++) {
+            record.n = 0;
+            add_record(&record, 9, answered, "", names[i]);
+            bad_among(record.at);
+        }
+        /* a length without a name, each; a byte of the field without a length, each */
+        for (v = 1; v < 256; v++) {
+            record.n = 0;
+            add_record(&record, 9, answered, "", "");
+            record.at[FEO_RECORD_TRANSFER_LEN_AT] = (uint8_t)v;
+            answers = record;
+            bad_accept(4);
+        }
+        for (i = FEO_RECORD_TRANSFER_AT; i < FEO_RECORD_LEN; i++) {
+            record.n = 0;
+            add_record(&record, 9, answered, "", "");
+            record.at[i] = (uint8_t)(i % 2 == 0 ? 1 : 0x80);
+            bad_among(record.at);
+        }
+        /* the abstract name, and the ID, as with an accepted one */
+        record.n = 0;
+        add_record(&record, 9, answered, ECHO_CLASS, "");
+        bad_among(record.at);
+        record.at[FEO_RECORD_ABSTRACT_LEN_AT] = 0;
+        bad_among(record.at);
+        record.n = 0;
+        add_record(&record, 8, answered, "", "");
+        bad_among(record.at);
+        answers.n = 0;
+        add_record(&answers, 9, answered, "", "");
+        add_record(&answers, 9, answered, "", "");
+        bad_accept(4);
+        /* where the cell is blank, 1 is told first */
+        answers.n = 0;
+        add_record(&answers, 9, answered, "", IMPLICIT);
+        given(6);
+        REFUSED(accept_it(0, 0), 1);
+        good_contents();
+    }
+    answers.n = 0;
+    add_record(&answers, 9, 5, "", "");
+    bad_accept(4);
+}
+
 /*
  * A sheet by letters, capitals for abstract names, small ones for transfer names. A proposal has ID, abstract name and transfer
- * names of each context, "5:Aab 3:Bc"; a site's sheet both names, "Aa Ab"; an answer ID, result and transfer name, "5:0a 3:4c".
+ * names of each context, "5:Aab 3:Bc"; a site's sheet both names, "Aa Ab"; an answer ID, result and, where that is 0, transfer name,
+ * "5:0a 3:4".
  */
 static void lettered(struct bytes *sheet, const char *p)
 {
@@ -1203,6 +1487,8 @@ static void lettered(struct bytes *sheet, const char *p)
             abstract = abstracts[*p++ - 'A'];
         else
             answered = (unsigned)(*p++ - '0');
+        if (answered != 0)
+            add_record(sheet, id, answered, abstract, "");
         for (; *p >= 'a'; p++)
             add_record(sheet, id, answered, abstract, transfers[*p - 'a']);
     }
@@ -1261,6 +1547,7 @@ static void chained(int line, const struct bytes *answer)
         &w.a, w.gather + FEO_ECHOED_AT, FEO_ECHOED_LEN, w.gather + f.application_at, f.application_len, own, n * FEO_RECORD_LEN,
         w.gather, FEO_BUFFER, w.out, FEO_BUFFER, &w.r);
     local(line, got, FEO_AE_7, 6, ac.at, ac.n);
+    check(line, w.r.sent <= rq.n, "it is no longer than the request");
     check(line, feo_read_accept(w.out, w.r.sent, back, sizeof back, &f) == 0 && f.records == n, "what is sent is read");
     check(line, n * FEO_RECORD_LEN == answer->n && memcmp(back, answer->at, answer->n) == 0, "it is the answer");
     check(line, feo_choose(sheet, sizeof sheet, site.at, site.n, own, sizeof own, &n) == 4 && n == 0, "the whole buffer is none");
@@ -1291,10 +1578,10 @@ static void choosing(void)
     static struct bytes answer;
     unsigned id;
     /* each result, in the proposal's order */
-    CHOOSES("5:Aab 3:Bcb 255:Cba 1:Ab", "Ba Aa", "5:0a 3:4c 255:3b 1:4b");
+    CHOOSES("5:Aab 3:Bcb 255:Cba 1:Ab", "Ba Aa", "5:0a 3:4 255:3 1:4");
     CHOOSES("1:Aab", "Aa", "1:0a");
-    CHOOSES("1:Aab", "Ac", "1:4a");
-    CHOOSES("1:Aab", "Ba", "1:3a");
+    CHOOSES("1:Aab", "Ac", "1:4");
+    CHOOSES("1:Aab", "Ba", "1:3");
     /* the first of several, in the site's order and not in the proposal's */
     CHOOSES("1:Aabc", "Ac Ab Aa", "1:0c");
     CHOOSES("1:Acba", "Aa Ab Ac", "1:0a");
@@ -1302,30 +1589,38 @@ static void choosing(void)
     CHOOSES("1:Aabc 3:Babc", "Bc Ab Ac Ba", "1:0b 3:0c");
     /* repeated records of the site, and of the proposal */
     CHOOSES("1:Aab", "Ab Ab Aa Ab", "1:0b");
-    CHOOSES("1:Aab", "Ac Ac", "1:4a");
+    CHOOSES("1:Aab", "Ac Ac", "1:4");
     CHOOSES("1:Aabab", "Ab Aa", "1:0b");
-    CHOOSES("1:Acc", "Aa", "1:4c");
+    CHOOSES("1:Acc", "Aa", "1:4");
     /* contexts with one abstract name */
     CHOOSES("1:Aa 3:Aa 5:Aab", "Ab Aa", "1:0a 3:0a 5:0b");
-    CHOOSES("7:Ab 9:Ac 11:Aa", "Aa", "7:4b 9:4c 11:0a");
+    CHOOSES("7:Ab 9:Ac 11:Aa", "Aa", "7:4 9:4 11:0a");
     /* a transfer name of another context, and one that the site has with another abstract name */
-    CHOOSES("1:Aa 3:Ab", "Ab", "1:4a 3:0b");
-    CHOOSES("1:Aa 3:Ba", "Ab Ba", "1:4a 3:0a");
-    CHOOSES("1:Ca", "Aa Ba", "1:3a");
+    CHOOSES("1:Aa 3:Ab", "Ab", "1:4 3:0b");
+    CHOOSES("1:Aa 3:Ba", "Ab Ba", "1:4 3:0a");
+    CHOOSES("1:Ca", "Aa Ba", "1:3");
     /* names that begin others, and that differ in one byte */
-    CHOOSES("1:Ba 3:Ca", "Ba", "1:0a 3:3a");
-    CHOOSES("1:Ba 3:Ca", "Ca", "1:3a 3:0a");
-    CHOOSES("1:Aa 3:Abc 5:Ad", "Ac Ab", "1:4a 3:0c 5:4d");
-    CHOOSES("1:Ab 3:Ac", "Aa Ad", "1:4b 3:4c");
-    CHOOSES("1:Aa 3:Fa", "Fa", "1:3a 3:0a");
-    CHOOSES("1:De 3:Ee", "De", "1:0e 3:3e");
-    CHOOSES("1:De 3:Df 5:Dfe", "De", "1:0e 3:4f 5:0e");
+    CHOOSES("1:Ba 3:Ca", "Ba", "1:0a 3:3");
+    CHOOSES("1:Ba 3:Ca", "Ca", "1:3 3:0a");
+    CHOOSES("1:Aa 3:Abc 5:Ad", "Ac Ab", "1:4 3:0c 5:4");
+    CHOOSES("1:Ab 3:Ac", "Aa Ad", "1:4 3:4");
+    CHOOSES("1:Aa 3:Fa", "Fa", "1:3 3:0a");
+    CHOOSES("1:De 3:Ee", "De", "1:0e 3:3");
+    CHOOSES("1:De 3:Df 5:Dfe", "De", "1:0e 3:4 5:0e");
+    /* a refused answer is ID, result and zeros */
+    lettered(&proposal, "7:Aa 9:Ba");
+    lettered(&site, "Ab");
+    memset(answer.at, 0, 2 * FEO_RECORD_LEN);
+    memcpy(answer.at, "\7\4", 2);
+    memcpy(answer.at + FEO_RECORD_LEN, "\11\3", 2);
+    answer.n = 2 * FEO_RECORD_LEN;
+    chosen(__LINE__, FEO_ANSWER_ROOM, 0, &answer);
     /* the most contexts, in a request */
     proposal.n = answer.n = site.n = 0;
     add_record(&site, 0, 0, "0", "1.0");
     for (id = 255; id < 256; id -= 2) {
         add_record(&proposal, id, 0, "0", id == 77 ? "1" : "1.0");
-        add_record(&answer, id, id == 77 ? 4 : 0, "", id == 77 ? "1" : "1.0");
+        add_record(&answer, id, id == 77 ? 4 : 0, "", id == 77 ? "" : "1.0");
     }
     CHECK(answer.n == FEO_ANSWER_ROOM);
     chained(__LINE__, &answer);
@@ -1649,6 +1944,8 @@ int main(void)
     reading();
     places();
     records();
+    refused_read();
+    refused_sent();
     choosing();
     not_choosing();
     pdvs();
