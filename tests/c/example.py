@@ -6,7 +6,7 @@ import socket
 import subprocess
 import sys
 
-IMPLICIT, EXPLICIT, RLE = "1.2.840.10008.1.2", "1.2.840.10008.1.2.1", "1.2.840.10008.1.2.5"
+IMPLICIT, EXPLICIT, NONE = "1.2.840.10008.1.2", "1.2.840.10008.1.2.1", ""
 RELEASE_RP = bytes([6, 0, 0, 0, 0, 4, 0, 0, 0, 0])
 ECHO = ["DT-2, Sta6", "context 1, command, 68 bytes", "AR-2, Sta8", "AR-4, Sta13", "AR-5, Sta1"]
 
@@ -14,9 +14,9 @@ ECHO = ["DT-2, Sta6", "context 1, command, 68 bytes", "AR-2, Sta8", "AR-4, Sta13
 SERVED = [
     ("tests/listen/dcmtk_echo.in", False, [(1, 0, IMPLICIT)], ECHO, RELEASE_RP),
     ("tests/listen/dcmtk_echo_ppc128.in", False, [(i, 0, IMPLICIT) for i in range(1, 256, 2)], ECHO, RELEASE_RP),
-    ("tests/listen/dcmtk_store_rle_refused.in", False, [(1, 4, RLE), (3, 0, EXPLICIT)], ["AA-3, Sta1"], b""),
+    ("tests/listen/dcmtk_store_rle_refused.in", False, [(1, 4, NONE), (3, 0, EXPLICIT)], ["AA-3, Sta1"], b""),
     ("tests/corpus/dcmtk_store_userid_rsp.scu.bin", True, [(1, 0, EXPLICIT), (3, 0, IMPLICIT)], ["AA-4, Sta1"], b""),
-    ("tests/corpus/dcmtk_store_small_ctx.scu.bin", True, [(1, 3, IMPLICIT)], ["AA-4, Sta1"], b""),
+    ("tests/corpus/dcmtk_store_small_ctx.scu.bin", True, [(1, 3, NONE)], ["AA-4, Sta1"], b""),
 ]
 
 

@@ -21,6 +21,7 @@ static struct outcome {
     uint32_t sum;     /* of the fragments' bytes, in order */
     int64_t due[32];  /* when ARTIM expires, after each action */
     size_t actions;
+    char taken[65]; /* at AE-3: the transfer syntax in which context 1 is taken; empty: refused */
     struct bytes back;
 } got;
 
@@ -91,6 +92,19 @@ static const struct liked liked[3] = { { ECHO_CLASS, IMPLICIT }, { CR_IMAGE, EXP
 static uint8_t site[3 * FEO_RECORD_LEN];
 static size_t site_len = sizeof site;
 
+/* What the peer's acceptance says of context 1. */
+static void hears(const struct line *l, size_t shown)
+{
+    uint8_t sheet[FEO_ANSWER_ROOM];
+    struct feo_associate f;
+    const uint8_t *name;
+    size_t n;
+    must(feo_read_accept(l->gather, shown, sheet, sizeof sheet, &f) == FEO_NOT_REFUSED, "an acceptance that is shown is read");
+    name = taken(sheet, f.records, 1, &n);
+    if (name != NULL)
+        memcpy(got.taken, name, n);
+}
+
 void act(struct line *l, const struct feo_answer *r)
 {
     uint8_t id, control;
@@ -100,6 +114,8 @@ void act(struct line *l, const struct feo_answer *r)
     got.due[got.actions++] = l->due;
     if (besides != NULL)
         besides(l, r->action);
+    if (r->action == FEO_AE_3)
+        hears(l, r->shown);
     if (r->action == FEO_AE_6 && l->a.state == FEO_STA_3)
         answer_request(l, r->shown, (const uint8_t *)own, own_len, site, site_len);
     if (r->action == FEO_DT_2)
@@ -296,9 +312,9 @@ static void answered(void)
     add_record(&answer, 1, 0, "", IMPLICIT);
     add_record(&proposal, 255, 0, "1.2.840.10008.5.1.4.1.1.1.1", EXPLICIT);
     add_record(&proposal, 255, 0, "1.2.840.10008.5.1.4.1.1.1.1", IMPLICIT);
-    add_record(&answer, 255, FEO_CONTEXT_ABSTRACT_NOT_SUPPORTED, "", EXPLICIT);
+    add_record(&answer, 255, FEO_CONTEXT_ABSTRACT_NOT_SUPPORTED, "", "");
     add_record(&proposal, 7, 0, CR_IMAGE, JPEG);
-    add_record(&answer, 7, FEO_CONTEXT_TRANSFER_NOT_SUPPORTED, "", JPEG);
+    add_record(&answer, 7, FEO_CONTEXT_TRANSFER_NOT_SUPPORTED, "", "");
     add_record(&proposal, 3, 0, CR_IMAGE, IMPLICIT);
     add_record(&proposal, 3, 0, CR_IMAGE, EXPLICIT);
     add_record(&answer, 3, 0, "", EXPLICIT);
@@ -308,7 +324,7 @@ static void answered(void)
     must(sees("AE-5 AE-6 AE-7 AA-4 ") && comes_back(&pdu), "four contexts, two of them taken");
     proposal.n = answer.n = 0;
     add_record(&proposal, 1, 0, CR_IMAGE, JPEG);
-    add_record(&answer, 1, FEO_CONTEXT_TRANSFER_NOT_SUPPORTED, "", JPEG);
+    add_record(&answer, 1, FEO_CONTEXT_TRANSFER_NOT_SUPPORTED, "", "");
     of_sheet(&all, 1, &proposal);
     of_sheet(&pdu, 2, &answer);
     talk(&all, AT_ONCE, 0);
@@ -447,7 +463,7 @@ static void requestor(void)
     for (i = 0; i < sizeof command; i++)
         command[i] = (uint8_t)(i * i >> 3);
     asks("STORE-EQUINE    ", command, sizeof command, 1);
-    must(sees("AE-1 AE-2 AE-3 DT-1 DT-1 DT-1 AR-1 AR-3 "), "a requestor");
+    must(sees("AE-1 AE-2 AE-3 DT-1 DT-1 DT-1 AR-1 AR-3 ") && strcmp(got.taken, IMPLICIT) == 0, "a requestor");
     asks("STORE-EQUINE    ", command, 1, 1);
     must(sees("AE-1 AE-2 AE-3 DT-1 AR-1 AR-3 "), "a command of one byte");
     asks("STORE-EQUUS     ", command, 0, 1);
@@ -458,19 +474,38 @@ static void requestor(void)
     must(told("AE-1 AA-2 ", "feo_confirm: bad contents. "), "a title that may not be sent is told, and ends it");
 }
 
-/* A peer that takes no byte of data in a P-DATA-TF. */
-static void no_room(void)
+/* A requestor whose peer has written this AC, takes no byte of data, and takes context 1 in this transfer syntax; empty: refuses it. */
+static void accepted_by(const struct bytes *ac, const char *name)
 {
     static struct line l;
     int ends[2];
     memset(&got, 0, sizeof got);
-    acceptance(&pdu, 1, 0, 6);
-    must(socketpair(AF_UNIX, SOCK_STREAM, 0, ends) == 0 && write(ends[0], pdu.at, pdu.n) == (ssize_t)pdu.n, "an AC is there");
+    must(socketpair(AF_UNIX, SOCK_STREAM, 0, ends) == 0 && write(ends[0], ac->at, ac->n) == (ssize_t)ac->n, "an AC is there");
     must(shutdown(ends[0], SHUT_WR) == 0, "and nothing else");
     l.fd = ends[1];
     deliver(&l, "STORE-EQUINE    ", "NIGHT-SCANNER   ", (const uint8_t *)"x", 1);
     close(ends[0]);
     must(told("AE-1 AE-2 AE-3 AA-1 AR-5 ", "feo_fragment_max: PDU too long. "), "no room for data is told, and ends it");
+    must(strcmp(got.taken, name) == 0, "the acceptance says what is taken");
+}
+
+/* A context that is taken, and one that is refused: with an empty name, a good one, a part of one, and none. */
+static void acceptances(void)
+{
+    static const char name[] = "\x40\0\0\x11" IMPLICIT;
+    static const size_t lengths[] = { sizeof name - 1, 4, 1, 0 };
+    static struct bytes contexts;
+    size_t i;
+    acceptance(&pdu, 1, FEO_CONTEXT_ACCEPTED, 6);
+    accepted_by(&pdu, IMPLICIT);
+    acceptance(&pdu, 1, FEO_CONTEXT_ABSTRACT_NOT_SUPPORTED, 6);
+    accepted_by(&pdu, "");
+    for (i = 0; i < sizeof lengths / sizeof *lengths; i++) {
+        contexts.n = 0;
+        add_context(&contexts, 0x01000000 | FEO_CONTEXT_TRANSFER_NOT_SUPPORTED << 8, name, lengths[i]);
+        accepting(&pdu, 1, &contexts, 6);
+        accepted_by(&pdu, "");
+    }
 }
 
 static void fails_at_once(void)
@@ -539,7 +574,7 @@ int main(void)
     times();
     goes();
     requestor();
-    no_room();
+    acceptances();
     fails_at_once();
     refusals();
     printf("the loop of docs/HOST.md serves an association, with signals, faults and refusals\n");
