@@ -1575,7 +1575,7 @@ static void chooses(int line, const char *from_peer, const char *of_site, const 
 
 static void choosing(void)
 {
-    static struct bytes answer;
+    static struct bytes answer, ac;
     unsigned id;
     /* each result, in the proposal's order */
     CHOOSES("5:Aab 3:Bcb 255:Cba 1:Ab", "Ba Aa", "5:0a 3:4 255:3 1:4");
@@ -1615,6 +1615,15 @@ static void choosing(void)
     memcpy(answer.at + FEO_RECORD_LEN, "\11\3", 2);
     answer.n = 2 * FEO_RECORD_LEN;
     chosen(__LINE__, FEO_ANSWER_ROOM, 0, &answer);
+    /* a chosen context that is refused after all: by its result alone it is not sent, written anew it is */
+    lettered(&answers, "1:0a 3:3");
+    answers.at[FEO_RECORD_RESULT_AT] = FEO_CONTEXT_USER_REJECTION;
+    given(3);
+    REFUSED(accept_it(0, FEO_BUFFER), 4);
+    CHECK(feo_put_record(answers.at, 1, FEO_CONTEXT_USER_REJECTION, NULL, 0, NULL, 0) == 0);
+    of_sheet(&ac, 2, &answers);
+    memcpy(ac.at + FEO_ECHOED_AT, echoed.at, FEO_ECHOED_LEN);
+    LOCAL(accept_it(0, FEO_BUFFER), FEO_AE_7, 6, ac.at, ac.n);
     /* the most contexts, in a request */
     proposal.n = answer.n = site.n = 0;
     add_record(&site, 0, 0, "0", "1.0");
