@@ -10,12 +10,13 @@ use borrow.Author.Needs.{needs}
 use borrow.Author.Tests.{not-true, not-false}
 use Rattle.laws.specs.Lists.{any, sameBytes}
 use Rattle.numbers.specs.Lengths.{RECORD}
+use Rattle.numbers.specs.Results.{ACCEPTED, ABSTRACT-NOT-SUPPORTED, TRANSFER-NOT-SUPPORTED}
 use Rattle.sheets.specs.Contexts.{Context}
 use Rattle.sheets.specs.Sheet.{transferOf, recordsOf}
 use Rattle.sheets.specs.Record.{recordOf, recordAt, abstractAt, transferAt}
 use Rattle.sheets.proofs.RecordLaws.{abstract-here, transfer-here, transfer-short, record-whole}
 use Rattle.sheets.proofs.RunLaws.{record-here, records-none}
-use Rattle.choosing.specs.Choice.{Liked, ACCEPTED, ABSTRACT-NOT-SUPPORTED, TRANSFER-NOT-SUPPORTED, likedOf, siteIn, sameAbstract, wasProposed, matches, resultFor, firstProposed, transferFor, chosen}
+use Rattle.choosing.specs.Choice.{Liked, likedOf, siteIn, sameAbstract, wasProposed, matches, resultFor, transferFor, chosen}
 use Rattle.choosing.specs.Private.Runs.{runContext, resultFrom, answerBytes}
 
 -- ---- `was_proposed`: what the transfer names from `at` on say
@@ -148,11 +149,11 @@ module _ (run site : List ℕ) (before at : ℕ) (v : Looking run site before at
         let t : transferFor (runContext run) (siteIn site) ≡ transferAt site at = v .same-transfer ∙ rw (site-here site at (look-here h), m, transfer-here site at (look-here h)) in
         p ∙ (rw (y, record-whole (getD run 0 0) ACCEPTED [] (transferAt site at) (omega arith) (transfer-short site at), i, t))
 
-  pub look-none : (x o : List ℕ) → length site ≤ at → RECORD ≤ length run → x ≡ transferAt run 0 → o ≡ recordOf (getD run 0 0) before (take (0 - 0) (drop 0 run)) x → o ≡ answerBytes (chosen (siteIn site) (runContext run))
-  unfolding answerBytes chosen resultFrom transferFor firstProposed runContext
-  look-none x o h l y p =
+  pub look-none : (o : List ℕ) → length site ≤ at → o ≡ recordOf (getD run 0 0) before (take (0 - 0) (drop 0 run)) (take (0 - 0) (drop 0 run)) → o ≡ answerBytes (chosen (siteIn site) (runContext run))
+  unfolding answerBytes chosen resultFrom transferFor runContext
+  look-none o h p =
       let i : resultFor (runContext run) (siteIn site) ≡ before = v .same-result ∙ rw (site-none site at h) in
-      let t : transferFor (runContext run) (siteIn site) ≡ transferAt run 0 = v .same-transfer ∙ rw (site-none site at h, record-here run 0 (omega arith), transfer-here run 0 (omega arith)) in
-      p ∙ (rw (y, record-whole (getD run 0 0) before [] (transferAt run 0) (omega arith) (transfer-short run 0), i, t))
+      let t : transferFor (runContext run) (siteIn site) ≡ [] = v .same-transfer ∙ rw (site-none site at h) in
+      p ∙ (rw (record-whole (getD run 0 0) before [] [] (omega arith) (omega arith), i, t))
 
 pub ruleset look-laws = (needs, look-start, look-here, look-next, look-found, look-none)

@@ -19,21 +19,16 @@ use Rattle.sheets.specs.Sheet.{transferOf, recordsOf, answerSheetOf, contextsIn
 use Rattle.sheets.proofs.RecordLaws.{transfer-most, record-length}
 use Rattle.sheets.proofs.RunLaws.{contexts-none}
 use Rattle.sheets.proofs.Inverse.{proposal-whole, site-whole}
-use Rattle.choosing.specs.Choice.{likedOf, siteIn, matches, firstProposed, transferFor, chosen, chosenFor}
+use Rattle.choosing.specs.Choice.{likedOf, siteIn, matches, transferFor, chosen, chosenFor}
 use Rattle.choosing.specs.Call.{chosenSheet, chooseRefusal, noneChosen, chosenOf, chosenBytes, Chose}
 use Rattle.choosing.specs.declared.Chosen.{Chosen}
 use Rattle.choosing.specs.Private.Runs.{runContext, Run, answerBytes}
 use Rattle.choosing.proofs.RunLaws.{run-length}
 
 -- ---- the record of an answer has its 132 bytes, since the name of any record fits its field
-transfers-most : (rs : List (List ℕ)) → length (firstProposed (record { id = 0; abstr = []; transfers = map transferOf rs })) ≤ 64
-unfolding firstProposed
-transfers-most [] = omega arith
-transfers-most (r ∷ rs) = transfer-most r
-
 chosen-most : (run : List ℕ) (rs : List (List ℕ)) → length (transferFor (runContext run) (map likedOf rs)) ≤ 64
-unfolding transferFor firstProposed runContext likedOf
-chosen-most run [] = transfers-most (recordsOf run)
+unfolding transferFor likedOf
+chosen-most run [] = omega arith
 chosen-most run (r ∷ rs) = go (matches (runContext run) (likedOf r)) (chosen-most run rs)
   where
     go : (b : Bool) → length (transferFor (runContext run) (map likedOf rs)) ≤ 64 → length (cond b (transferOf r) (transferFor (runContext run) (map likedOf rs))) ≤ 64

@@ -7,12 +7,12 @@ use lib.ListN.{take}
 use Rattle.laws.specs.Text.{bytes}
 use Rattle.sheets.specs.Sheet.{recordBytes, answerSheetOf, siteRecord, siteOk}
 use Rattle.sheets.proofs.Examples.{sheets-open}
-use Rattle.choosing.specs.Choice.{likedOf, siteIn, sameAbstract, wasProposed, matches, resultFor, firstProposed, transferFor, chosen, chosenFor}
+use Rattle.choosing.specs.Choice.{likedOf, siteIn, sameAbstract, wasProposed, matches, resultFor, transferFor, chosen, chosenFor}
 use Rattle.choosing.specs.Call.{chosenSheet, chooseRefusal}
 
 -- what the definitions of choosing compute with, by one name for an `unfolding` line
 unfoldable choosing-open : Unit {0}
-unfolding sheets-open siteRecord siteOk answerSheetOf likedOf siteIn sameAbstract wasProposed matches resultFor firstProposed transferFor chosen chosenFor chosenSheet chooseRefusal
+unfolding sheets-open siteRecord siteOk answerSheetOf likedOf siteIn sameAbstract wasProposed matches resultFor transferFor chosen chosenFor chosenSheet chooseRefusal
 choosing-open = tt
 
 abbrev cr-image : List ℕ
@@ -45,17 +45,17 @@ pub not-proposed : chosenSheet proposal (recordBytes 0 0 cr-image jpeg ++ record
 unfolding choosing-open
 not-proposed = refl
 
--- no common transfer name: 4; the abstract name on no record: 3. Both carry the first proposed transfer name
-pub no-common-name : chosenSheet proposal (recordBytes 0 0 cr-image jpeg ++ recordBytes 0 0 digital-x-ray implicit) ≡ recordBytes 1 4 [] implicit
+-- no common transfer name: 4; the abstract name on no record: 3. Neither carries a transfer name
+pub no-common-name : chosenSheet proposal (recordBytes 0 0 cr-image jpeg ++ recordBytes 0 0 digital-x-ray implicit) ≡ recordBytes 1 4 [] []
 unfolding choosing-open
 no-common-name = refl
 
-pub no-abstract-name : chosenSheet proposal (recordBytes 0 0 digital-x-ray implicit) ≡ recordBytes 1 3 [] implicit
+pub no-abstract-name : chosenSheet proposal (recordBytes 0 0 digital-x-ray implicit) ≡ recordBytes 1 3 [] []
 unfolding choosing-open
 no-abstract-name = refl
 
 -- two contexts of one abstract name stay two, each with its own answer
-pub two-contexts : chosenSheet (recordBytes 5 0 cr-image explicit ++ recordBytes 3 0 cr-image jpeg) (recordBytes 0 0 cr-image explicit) ≡ recordBytes 5 0 [] explicit ++ recordBytes 3 4 [] jpeg
+pub two-contexts : chosenSheet (recordBytes 5 0 cr-image explicit ++ recordBytes 3 0 cr-image jpeg) (recordBytes 0 0 cr-image explicit) ≡ recordBytes 5 0 [] explicit ++ recordBytes 3 4 [] []
 unfolding choosing-open
 two-contexts = refl
 

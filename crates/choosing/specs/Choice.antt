@@ -1,22 +1,12 @@
 -- The answer to a proposed context, by the site's records: "A context whose abstract name isn't on the site's sheet gets result 3; one whose abstract name is there but with no common
--- transfer name gets 4; otherwise result 0 with the first site record that matches .. Refused contexts carry their first proposed transfer name."
+-- transfer name gets 4; otherwise result 0 with the first site record that matches .." A refused context has no transfer name: "E1 writes it that way too".
 use Prim.Native.Nat.{ℕ}
 use mathlib.Core.Bool.{Bool, _&&_, cond}
 use mathlib.Core.List.{List, [], _∷_, map}
-use lib.ListN.{getD}
 use Rattle.laws.specs.Lists.{any, sameBytes}
+use Rattle.numbers.specs.Results.{ACCEPTED, ABSTRACT-NOT-SUPPORTED, TRANSFER-NOT-SUPPORTED}
 use Rattle.sheets.specs.Contexts.{Context, Answered}
 use Rattle.sheets.specs.Sheet.{abstractOf, transferOf, recordsOf}
-
--- ---- the results that are given, in the words of PS3.8 Table 9-18
-abbrev pub ACCEPTED : ℕ
-ACCEPTED = 0
-
-abbrev pub ABSTRACT-NOT-SUPPORTED : ℕ
-ABSTRACT-NOT-SUPPORTED = 3
-
-abbrev pub TRANSFER-NOT-SUPPORTED : ℕ
-TRANSFER-NOT-SUPPORTED = 4
 
 -- ---- the site's records
 
@@ -49,13 +39,9 @@ matches c w = sameAbstract c w && wasProposed c (w .transfer)
 unfoldable pub resultFor : Context → List Liked → ℕ
 resultFor c ws = cond (any (matches c) ws) ACCEPTED (cond (any (sameAbstract c) ws) TRANSFER-NOT-SUPPORTED ABSTRACT-NOT-SUPPORTED)
 
--- "their first proposed transfer name"
-unfoldable pub firstProposed : Context → List ℕ
-firstProposed c = getD (c .transfers) 0 []
-
--- the transfer name of the first record that matches, and of a refused context the first proposed one
+-- the transfer name of the first record that matches, and none where none does
 unfoldable pub transferFor : Context → List Liked → List ℕ
-transferFor c [] = firstProposed c
+transferFor c [] = []
 transferFor c (w ∷ ws) = cond (matches c w) (w .transfer) (transferFor c ws)
 
 unfoldable pub chosen : List Liked → Context → Answered

@@ -8,13 +8,6 @@ ghost use Rattle.sheets.specs.Record.{recordAt};
 ghost use Rattle.choosing.specs.Choice.{likedOf, siteIn, wasProposed, chosen};
 ghost use Rattle.choosing.specs.Private.Runs.{runContext, resultFrom, answerBytes};
 
-// The results that are given.
-pub const ACCEPTED: u8 = 0;
-
-pub const ABSTRACT_NOT_SUPPORTED: u8 = 3;
-
-pub const TRANSFER_NOT_SUPPORTED: u8 = 4;
-
 // Whether the transfer name was proposed for the context.
 fn was_proposed(run: &[u8], x: &[u8]) -> bool
     requires { ⌜ length (now run) % RECORD ≡ 0 ⌝ }
@@ -39,24 +32,29 @@ fn result_at(run: &[u8], site: &[u8], at: usize, before: u8) -> u8
         return before;
     }
     if was_proposed(run, sheets::transfer_at(site, at)) {
-        return ACCEPTED;
+        return numbers::ACCEPTED;
     }
-    TRANSFER_NOT_SUPPORTED
+    numbers::TRANSFER_NOT_SUPPORTED
 }
 
-// Goes over the site's records, once, to the first that matches.
+// Goes over the site's records, once, to the first that matches; where none does the answer has no name.
 pub(crate) fn answer_to(run: &[u8], site: &[u8]) -> [u8; numbers::RECORD]
     requires { ⌜ (RECORD ≤ length (now run)) × (length (now run) % RECORD ≡ 0) × (length (now site) % RECORD ≡ 0) ⌝ }
     ensures { λ r. ⌜ r ≡ answerBytes (chosen (siteIn (now (site .entry))) (runContext (now (run .entry)))) ⌝ }
 {
-    let mut result = ABSTRACT_NOT_SUPPORTED;
+    let mut result = numbers::ABSTRACT_NOT_SUPPORTED;
     let mut at = 0;
     while at < site.len() {
         result = result_at(run, site, at, result);
-        if result == ACCEPTED {
-            return sheets::record_of(run[0], ACCEPTED, &run[0..0], sheets::transfer_at(site, at));
+        if result == numbers::ACCEPTED {
+            return sheets::record_of(
+                run[0],
+                numbers::ACCEPTED,
+                &run[0..0],
+                sheets::transfer_at(site, at),
+            );
         }
         at += numbers::RECORD;
     }
-    sheets::record_of(run[0], result, &run[0..0], sheets::transfer_at(run, 0))
+    sheets::record_of(run[0], result, &run[0..0], &run[0..0])
 }

@@ -8,7 +8,7 @@ use lib.ListN.{length, take, drop}
 use lib.Dec.{eqb}
 use borrow.Author.Needs.{needs}
 use Rattle.laws.proofs.Places.{part-tail}
-use Rattle.laws.proofs.Tests.{deciding}
+use Rattle.laws.proofs.Tests.{pick-true, pick-false, deciding}
 use Rattle.octets.specs.Octets.{be32}
 use Rattle.names.specs.Name.{nameOk}
 use Rattle.items.specs.Items.{Walk, walk, bodies, first, goodBodies}
@@ -30,7 +30,7 @@ pub maximum-fits : (x : List ℕ) (w : Walk) → one 0x51 w ≡ true → x ≡ f
 unfolding userGood
 maximum-fits x w o p = ap (λ (l : List ℕ). eqb (length l) 4) p ∙ one-good 0x51 w o userGood
 
-pub ruleset counting = (deciding, eqb-is, transfer-is, maximum-fits, needs)
+pub ruleset counting = (deciding, pick-true, pick-false, eqb-is, transfer-is, maximum-fits, needs)
 
 -- ---- what follows the four bytes of a context, as the code has it
 pub tail-subs : (r : Bool) (b : List ℕ) → r ≡ subsOk (walk (take (length b - 4) (drop 4 b))) → r ≡ subsOk (walk (drop 4 b))

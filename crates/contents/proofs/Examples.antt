@@ -28,8 +28,11 @@ context id subs = itemBytes 0x20 (id ∷ 0xDE ∷ 0xAD ∷ 0xBE ∷ subs)
 abbrev proposed : ℕ → List ℕ
 proposed id = context id (named 0x30 ++ named 0x40)
 
+abbrev answerWith : ℕ → ℕ → List ℕ → List ℕ
+answerWith id result subs = itemBytes 0x21 (id ∷ 0xDE ∷ result ∷ 0xAD ∷ subs)
+
 abbrev answer : List ℕ → List ℕ
-answer subs = itemBytes 0x21 (1 ∷ 0xDE ∷ 0 ∷ 0xAD ∷ subs)
+answer subs = answerWith 1 0 subs
 
 abbrev maximum : List ℕ
 maximum = itemBytes 0x51 (0 ∷ 0 ∷ 0x40 ∷ 0 ∷ [])
@@ -81,6 +84,12 @@ good-answers =
     (named 0x10 ++ (answer (itemBytes 0x30 [] ++ named 0x40) ++ user))
     -- and in an AC a 20H is
     ∷ (named 0x10 ++ (context 2 [] ++ (answer (named 0x40) ++ user)))
+    -- behind the four bytes of a refused 21H: an empty name, nothing, two 40H, one that passes the end, what looks like a 50H
+    ∷ (named 0x10 ++ (answerWith 1 1 (itemBytes 0x40 []) ++ user))
+    ∷ (named 0x10 ++ (answerWith 1 2 [] ++ user))
+    ∷ (named 0x10 ++ (answerWith 1 3 (named 0x40 ++ named 0x40) ++ user))
+    ∷ (named 0x10 ++ (answerWith 1 4 (0x40 ∷ 0 ∷ 0xFF ∷ 0xFF ∷ []) ++ user))
+    ∷ (named 0x10 ++ (answer (named 0x40) ++ (answerWith 3 4 user ++ user)))
     ∷ []
 
 abbrev bad-answers : List (List ℕ)
@@ -89,6 +98,14 @@ bad-answers =
     (named 0x10 ++ (proposed 1 ++ user))
     -- two 40H
     ∷ (named 0x10 ++ (answer (named 0x40 ++ named 0x40) ++ user))
+    -- accepted, with an empty name
+    ∷ (named 0x10 ++ (answer (itemBytes 0x40 []) ++ user))
+    -- refused: result 5; an even ID; three bytes; an ID that came before; one that passes the end by a byte
+    ∷ (named 0x10 ++ (answerWith 1 5 (named 0x40) ++ user))
+    ∷ (named 0x10 ++ (answerWith 2 4 (named 0x40) ++ user))
+    ∷ (named 0x10 ++ (itemBytes 0x21 (1 ∷ 0 ∷ 4 ∷ []) ++ user))
+    ∷ (named 0x10 ++ (answer (named 0x40) ++ (answerWith 1 4 [] ++ user)))
+    ∷ (named 0x10 ++ (answer (named 0x40) ++ (0x21 ∷ 0 ∷ 0 ∷ 17 ∷ 3 ∷ 0 ∷ 4 ∷ 0 ∷ user)))
     ∷ []
 
 pub judged : (all (itemsOk 0x20) good && (all (λ s. not (itemsOk 0x20 s)) bad && (all (itemsOk 0x21) good-answers && all (λ s. not (itemsOk 0x21 s)) bad-answers))) ≡ true

@@ -13,6 +13,7 @@ use Rattle.laws.proofs.Booleans.{left-of, right-of}
 use Rattle.names.specs.Name.{nameOk}
 use Rattle.items.specs.Items.{Walk, walk, filled, bodies, first, goodBodies}
 use Rattle.items.proofs.HoldLaws.{first-good, held-filled, held-good}
+use Rattle.numbers.specs.Results.{ACCEPTED}
 use Rattle.octets.specs.Octets.{odd}
 use Rattle.contents.specs.Contents.{topKnown, answerKnown, named, one, subsOk, good20H, transferItemOk, good21H, userGood, good50H, contextGood, topGood, topOk, ids, itemsOk}
 use Rattle.contents.proofs.Meaning.{Sub, subs-some, subs-hold, sub-counts, Top, top-some, top-holds, top-counts}
@@ -75,14 +76,14 @@ module _ (t : ℕ) (w : Walk) (h : one t w ≡ true) where
 
 -- ---- a good 21H
 module _ (b : List ℕ) (g : good21H b ≡ true) where
-  parts-21 : (leb 4 (length b) && (odd (getD b 0 0) && (leb (getD b 2 0) 4 && (one 0x40 (walk (drop 4 b)) && goodBodies answerKnown named (walk (drop 4 b)))))) ≡ true
-  unfolding good21H transferItemOk
+  parts-21 : (leb 4 (length b) && (odd (getD b 0 0) && (leb (getD b 2 0) 4 && transferItemOk (getD b 2 0) (walk (drop 4 b))))) ≡ true
+  unfolding good21H
   parts-21 = g
 
   pub four-21 : 4 ≤ length b
   four-21 = leb-true 4 (length b) (left-of _ _ parts-21)
 
-  rest-21 : (leb (getD b 2 0) 4 && (one 0x40 (walk (drop 4 b)) && goodBodies answerKnown named (walk (drop 4 b)))) ≡ true
+  rest-21 : (leb (getD b 2 0) 4 && transferItemOk (getD b 2 0) (walk (drop 4 b))) ≡ true
   rest-21 = right-of (odd (getD b 0 0)) _ (right-of (leb 4 (length b)) _ parts-21)
 
   pub odd-21 : odd (getD b 0 0) ≡ true
@@ -91,11 +92,17 @@ module _ (b : List ℕ) (g : good21H b ≡ true) where
   pub result-21 : getD b 2 0 ≤ 4
   result-21 = leb-true _ _ (left-of _ _ rest-21)
 
-  pub one-21 : one 0x40 (walk (drop 4 b)) ≡ true
-  one-21 = left-of _ _ (right-of (leb (getD b 2 0) 4) _ rest-21)
+  -- of an accepted context
+  module _ (a : getD b 2 0 ≡ ACCEPTED) where
+    item-21 : (one 0x40 (walk (drop 4 b)) && goodBodies answerKnown named (walk (drop 4 b))) ≡ true
+    unfolding transferItemOk
+    item-21 = rw a at (right-of (leb (getD b 2 0) 4) _ rest-21)
 
-  pub transfer-name : nameOk (first (bodies 0x40 (walk (drop 4 b)))) ≡ true
-  transfer-name = one-good 0x40 (walk (drop 4 b)) one-21 named ∙ right-of (one 0x40 (walk (drop 4 b))) _ (right-of (leb (getD b 2 0) 4) _ rest-21)
+    pub one-21 : one 0x40 (walk (drop 4 b)) ≡ true
+    one-21 = left-of _ _ item-21
+
+    pub transfer-name : nameOk (first (bodies 0x40 (walk (drop 4 b)))) ≡ true
+    transfer-name = one-good 0x40 (walk (drop 4 b)) one-21 named ∙ right-of (one 0x40 (walk (drop 4 b))) _ item-21
 
 -- ---- a good 50H
 module _ (b : List ℕ) (g : good50H b ≡ true) where

@@ -6,6 +6,7 @@ use mathlib.Core.List.{List, [], _∷_, _++_, map}
 use lib.ListN.{length, drop, getD, replicate}
 use lib.Dec.{leb, eqb}
 use Rattle.laws.specs.Lists.{distinct}
+use Rattle.numbers.specs.Results.{ACCEPTED}
 use Rattle.octets.specs.Octets.{be32, odd}
 use Rattle.names.specs.Name.{nameOk}
 use Rattle.items.specs.Items.{Walk, walk, filled, bodies, first, goodBodies, holds}
@@ -49,10 +50,10 @@ subsOk w = leb 1 (countOf 0x40 w) && holds contextKnown named (contextOrder (cou
 unfoldable pub good20H : List ℕ → Bool
 good20H b = leb 4 (length b) && (odd (getD b 0 0) && subsOk (walk (drop 4 b)))
 
--- ---- "21H: ID odd, reserved, result 0 to 4, reserved, exactly one 40H with a name (for each result)."
--- what follows the four bytes, by the result
+-- ---- "21H: ID odd, reserved, result 0 to 4, reserved, exactly one 40H with a name"
+-- what follows the four bytes: "for results 1 to 4 all that follows the four fixed bytes is left untested", its filling too
 unfoldable pub transferItemOk : ℕ → Walk → Bool
-transferItemOk result w = one 0x40 w && goodBodies answerKnown named w
+transferItemOk result w = cond (eqb result ACCEPTED) (one 0x40 w && goodBodies answerKnown named w) true
 
 unfoldable pub good21H : List ℕ → Bool
 good21H b = leb 4 (length b) && (odd (getD b 0 0) && (leb (getD b 2 0) 4 && transferItemOk (getD b 2 0) (walk (drop 4 b))))

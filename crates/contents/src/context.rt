@@ -63,10 +63,13 @@ pub(crate) fn one_of(t: u8, s: &[u8]) -> bool
     items::count_of(t, s) == 1
 }
 
-// Whether the sub-items of a 21H with this result are right.
+// Whether this may follow the four bytes of a 21H with this result: behind a refused context anything may.
 fn transfer_item_ok(result: u8, s: &[u8]) -> bool
     ensures { λ r. ⌜ r ≡ transferItemOk result (walk (now (s .entry))) ⌝ }
 {
+    if result != numbers::ACCEPTED {
+        return true;
+    }
     if !one_of(0x40, s) {
         return false;
     }

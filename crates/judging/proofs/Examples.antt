@@ -116,10 +116,16 @@ answers =
     ∷ is 2 (ac (application ++ (context 2 ++ (answer 1 3 ++ user))))
     -- a 30H in a 21H is skipped
     ∷ is 2 (ac (application ++ (itemBytes 0x21 (1 ∷ 0 ∷ 0 ∷ 0 ∷ (itemBytes 0x30 [] ++ itemBytes 0x40 name)) ++ user)))
-    -- no version bit 0; result 5; no name; two 40H; an ID twice
+    -- refused contexts: the transfer name empty, no sub-item, a sub-item that passes the end, three bytes left over
+    ∷ is 2 (ac (application ++ (itemBytes 0x21 (1 ∷ 0 ∷ 3 ∷ 0 ∷ itemBytes 0x40 []) ++ user)))
+    ∷ is 2 (ac (application ++ (itemBytes 0x21 (1 ∷ 0 ∷ 1 ∷ 0 ∷ []) ++ user)))
+    ∷ is 2 (ac (application ++ (itemBytes 0x21 (1 ∷ 0 ∷ 4 ∷ 0 ∷ 0x40 ∷ 0 ∷ 0 ∷ 1 ∷ []) ++ user)))
+    ∷ is 2 (ac (application ++ (itemBytes 0x21 (1 ∷ 0 ∷ 2 ∷ 0 ∷ (itemBytes 0x40 name ++ (0 ∷ 0 ∷ 0 ∷ []))) ++ user)))
+    -- no version bit 0; result 5; accepted with the transfer name empty; three bytes; two 40H; an ID twice
     ∷ is 0 (frame 2 2 title (application ++ (answer 1 0 ++ user)))
     ∷ is 0 (ac (application ++ (answer 1 5 ++ user)))
-    ∷ is 0 (ac (application ++ (itemBytes 0x21 (1 ∷ 0 ∷ 3 ∷ 0 ∷ itemBytes 0x40 []) ++ user)))
+    ∷ is 0 (ac (application ++ (itemBytes 0x21 (1 ∷ 0 ∷ 0 ∷ 0 ∷ itemBytes 0x40 []) ++ user)))
+    ∷ is 0 (ac (application ++ (itemBytes 0x21 (1 ∷ 0 ∷ 3 ∷ []) ++ user)))
     ∷ is 0 (ac (application ++ (itemBytes 0x21 (1 ∷ 0 ∷ 0 ∷ 0 ∷ (itemBytes 0x40 name ++ itemBytes 0x40 name)) ++ user)))
     ∷ is 0 (ac (application ++ (answer 1 0 ++ (answer 3 0 ++ (answer 1 0 ++ user)))))
     ∷ []

@@ -1,7 +1,8 @@
-// Document 01's numbers by name, with the names of specs/: the refusals, the PDUs' kinds, lengths. Actions and events are in `table`. The header has the names of refusals and lengths too.
+// Document 01's numbers by name, with the names of specs/: the refusals, the PDUs' kinds, lengths, the results of a context. Actions and events are in `table`. The header has the names of refusals, lengths and results too.
 mod kinds;
 mod lengths;
 mod refusals;
+mod results;
 
 pub use kinds::ABORT;
 pub use kinds::ASSOCIATE_AC;
@@ -25,3 +26,6 @@ pub use refusals::NO_SUCH_PDU;
 pub use refusals::NOT_REFUSED;
 pub use refusals::SHORT_GATHER;
 pub use refusals::SHORT_OUTPUT;
+pub use results::ABSTRACT_NOT_SUPPORTED;
+pub use results::ACCEPTED;
+pub use results::TRANSFER_NOT_SUPPORTED;

@@ -8,10 +8,11 @@ use mathlib.Core.Path.{_≡_, refl, sym, ap, _∙_}
 use lib.ListN.{length, take, drop, getD, length-append, length-drop, drop-of-length-le}
 use lib.Dec.{eqb}
 use borrow.Author.Needs.{needs}
-use borrow.Author.Tests.{ne-eqb}
+use borrow.Author.Tests.{eq-eqb, ne-eqb}
 use mir.Val.{Fits}
 use mir.Syntax.{w64}
 use Rattle.laws.proofs.Places.{part-tail}
+use Rattle.numbers.specs.Results.{ACCEPTED}
 use Rattle.octets.specs.Private.Put.{Put}
 use Rattle.octets.specs.Put.{Placed}
 use Rattle.octets.proofs.PutLaws.{placed-put, put-length, put-nothing, next-room, next-put}
@@ -21,7 +22,7 @@ use Rattle.items.proofs.ItemLaws.{bodyAt, body-length, bodies-more, bodies-skip
 use Rattle.items.proofs.PlaceLaws.{stands}
 use Rattle.sheets.specs.Record.{recordOf}
 use Rattle.sheets.proofs.RecordLaws.{record-length, cut-short}
-use Rattle.reading.specs.Associate.{contextOf, answerOf}
+use Rattle.reading.specs.Associate.{contextOf, transferIn, answerOf}
 use Rattle.reading.specs.Private.Records.{each, bodyRecords, allRecords}
 
 -- ---- one record
@@ -46,6 +47,18 @@ pub four-tail : (b : List ℕ) → take (length b - 4) (drop 4 b) ≡ drop 4 b
 four-tail b = part-tail 4 b
 
 pub ruleset four-laws = (needs, four-short, four-tail)
+
+-- `transfer_in`
+module _ (b : List ℕ) (result : ℕ) (p : result ≡ getD b 2 0) where
+  pub no-transfer : (result ≡ ACCEPTED → ⊥) → [] ≡ transferIn b
+  unfolding transferIn
+  no-transfer h = rw (ne-eqb (getD b 2 0) ACCEPTED (λ e. h (p ∙ e)))
+
+  pub first-transfer : result ≡ ACCEPTED → (s x : List ℕ) → s ≡ drop 4 b → x ≡ first (bodies 0x40 (walk s)) → x ≡ transferIn b
+  unfolding transferIn
+  first-transfer h s x q e = rw (eq-eqb (getD b 2 0) ACCEPTED (sym p ∙ h)) (rw q at e)
+
+pub ruleset transfer-laws = (needs, no-transfer, first-transfer)
 
 -- ---- the first body, and those behind it
 each-more : (f : List ℕ → List ℕ) (t : ℕ) (s : List ℕ) (at e : ℕ) → e ≡ itemEnd s at → (e ≡ 0 → ⊥) → getD s at 0 ≡ t
@@ -124,8 +137,8 @@ answer-132 k b e = rw (ne-eqb k 0x20 e) (record-132 (answerOf b .id) (answerOf b
 pub answered-room : (k n : ℕ) (b o : List ℕ) → (k ≡ 0x20 → ⊥) → n + length (bodyRecords k b) ≤ length o → n + 132 ≤ length o
 answered-room k n b o e h = let l = answer-132 k b e in omega arith
 
-module _ (k n : ℕ) (b s o : List ℕ) (id : ℕ) (p : s ≡ drop 4 b) (q : id ≡ getD b 0 0) where
-  module _ (e : k ≡ 0x20) (a : List ℕ) (u : a ≡ first (bodies 0x30 (walk s))) where
+module _ (k n : ℕ) (b o : List ℕ) (id : ℕ) (q : id ≡ getD b 0 0) where
+  module _ (e : k ≡ 0x20) (s : List ℕ) (p : s ≡ drop 4 b) (a : List ℕ) (u : a ≡ first (bodies 0x30 (walk s))) where
     proposed-is : each (recordOf id 0 a) (bodies 0x40 (walk s)) ≡ bodyRecords k b
     unfolding bodyRecords contextOf
     proposed-is = rw (u, p, q, e)
@@ -136,10 +149,10 @@ module _ (k n : ℕ) (b s o : List ℕ) (id : ℕ) (p : s ≡ drop 4 b) (q : id 
     pub proposed-written : (m : ℕ) (o′ : List ℕ) → Put o n (each (recordOf id 0 a) (bodies 0x40 (walk s))) m o′ → Put o n (bodyRecords k b) m o′
     proposed-written m o′ w = rw proposed-is at w
 
-  module _ (e : k ≡ 0x20 → ⊥) (result : ℕ) (g : result ≡ getD b 2 0) (x : List ℕ) (u : x ≡ first (bodies 0x40 (walk s))) where
+  module _ (e : k ≡ 0x20 → ⊥) (result : ℕ) (g : result ≡ getD b 2 0) (x : List ℕ) (u : x ≡ transferIn b) where
     answered-is : recordOf id result [] x ≡ bodyRecords k b
     unfolding bodyRecords answerOf
-    answered-is = rw (ne-eqb k 0x20 e, g, u, p, q)
+    answered-is = rw (ne-eqb k 0x20 e, g, u, q)
 
     pub answered-written : (m : ℕ) (o′ : List ℕ) → Put o n (recordOf id result [] x) m o′ → Put o n (bodyRecords k b) m o′
     answered-written m o′ w = rw answered-is at w

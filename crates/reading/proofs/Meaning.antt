@@ -17,14 +17,15 @@ use Rattle.octets.specs.Put.{front}
 use Rattle.items.specs.Items.{walk, bodies, first, place}
 use Rattle.items.proofs.PlaceLaws.{stands}
 use Rattle.contents.specs.Contents.{bodyId, ids, good20H, good21H, itemsOk}
-use Rattle.contents.proofs.GoodLaws.{odd-20, abstract-name, some-transfer, transfer-names, odd-21, result-21, transfer-name, items-20, items-21, items-some, items-distinct}
+use Rattle.contents.proofs.GoodLaws.{odd-20, abstract-name, some-transfer, transfer-names, odd-21, result-21, items-20, items-21, items-some, items-distinct}
 use Rattle.judging.specs.Pdu.{kindOf}
 use Rattle.judging.proofs.KindLaws.{request-items, accept-items}
-use Rattle.sheets.specs.Contexts.{contextId, answeredId, contextOk, transferNameOk, answeredOk, contextsOk, allAnsweredOk}
+use Rattle.sheets.specs.Contexts.{contextId, answeredId, contextOk, answeredOk, contextsOk, allAnsweredOk}
 use Rattle.sheets.specs.Sheet.{contextsIn, answersIn, proposalOk, answersOk}
 use Rattle.sheets.proofs.Inverse.{contexts-back, contexts-proposal, answered-back, answered-answers, proposal-whole, answers-whole}
 use Rattle.reading.specs.Associate.{contextOf, answerOf, proposed, answered, applicationOf, applicationAt, sheetIn, refused, fieldsOf, associateRefusal, associateOf, filling, Read}
 use Rattle.reading.specs.declared.associate.Associate.{Associate}
+use Rattle.reading.proofs.ReadLaws.{transfer-goes}
 
 -- ---- the contexts of a valid RQ, and the answers of a valid AC, are good
 context-good : (b : List ℕ) → good20H b ≡ true → contextOk (contextOf b) ≡ true
@@ -32,8 +33,8 @@ unfolding contextOk contextOf
 context-good b g = both-of _ _ (odd-20 b g) (both-of _ _ (abstract-name b g) (both-of _ _ (some-transfer b g) (transfer-names b g)))
 
 answer-good : (b : List ℕ) → good21H b ≡ true → answeredOk (answerOf b) ≡ true
-unfolding answeredOk answerOf transferNameOk
-answer-good b g = both-of _ _ (odd-21 b g) (both-of _ _ (le-leb (getD b 2 0) 4 (result-21 b g)) (transfer-name b g))
+unfolding answeredOk answerOf
+answer-good b g = both-of _ _ (odd-21 b g) (both-of _ _ (le-leb (getD b 2 0) 4 (result-21 b g)) (transfer-goes b g))
 
 -- of either, with k for the item type: what is read from good bodies is good, with their IDs
 module _ {C : Type 0} (k : ℕ) (read : List ℕ → C) (good : List ℕ → Bool) (ok : C → Bool) (id : C → ℕ)

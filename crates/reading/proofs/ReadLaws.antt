@@ -2,18 +2,19 @@
 -- Assumes nothing.
 use Prim.Native.Nat.{ℕ, _+_, _-_, _*_, _/_, _^_, _≤_, _<_}
 use native.Mathlib.Omega.{arith}
-use mathlib.Core.Bool.{Bool, true, false}
+use mathlib.Core.Bool.{Bool, true, false, cond}
 use mathlib.Core.List.{List, [], _∷_, map}
 use mathlib.Core.Path.{_≡_, refl, sym, ap, _∙_}
-use lib.ListN.{length, take, drop, length-drop}
+use lib.ListN.{length, take, drop, getD, length-drop}
 use lib.Dec.{ltb, eqb}
 use borrow.Author.Needs.{needs}
 use mir.Val.{Fits}
 use mir.Syntax.{w64}
 use borrow.Author.Tests.{lt-ltb, le-ltb, eq-eqb, ne-eqb, eqb-true, eqb-false}
-use Rattle.laws.specs.Lists.{all}
+use Rattle.laws.specs.Lists.{all, empty}
 use Rattle.laws.proofs.Booleans.{left-of, right-of}
 use Rattle.laws.proofs.Places.{part-tail}
+use Rattle.numbers.specs.Results.{ACCEPTED}
 use Rattle.octets.specs.Octets.{be16}
 use Rattle.octets.specs.Private.Put.{Put}
 use Rattle.octets.specs.Put.{front}
@@ -26,10 +27,12 @@ use Rattle.contents.specs.Contents.{good20H, good21H, maximumIn}
 use Rattle.contents.proofs.GoodLaws.{abstract-name, transfer-names, transfer-name, items-20, items-21}
 use Rattle.judging.specs.Pdu.{kindOf, maximumOf}
 use Rattle.judging.proofs.KindLaws.{request-long, accept-long, request-items, accept-items}
+use Rattle.sheets.specs.Contexts.{transferNameOk}
 use Rattle.sheets.specs.Sheet.{contextRecords, sheetOf, answerSheetOf}
 use Rattle.sheets.specs.Record.{recordOf}
 use Rattle.sheets.proofs.RecordLaws.{record-whole}
-use Rattle.reading.specs.Associate.{contextOf, answerOf, proposed, answered, applicationOf, applicationAt, sheetIn, refused, fieldsOf, associateOf, filling, Read}
+use Rattle.sheets.proofs.Inverse.{transfer-fits}
+use Rattle.reading.specs.Associate.{contextOf, transferIn, answerOf, proposed, answered, applicationOf, applicationAt, sheetIn, refused, fieldsOf, associateOf, filling, Read}
 use Rattle.reading.specs.Private.Records.{each, bodyRecords, allRecords, contextType, fieldsWith}
 use Rattle.reading.specs.declared.associate.Associate.{Associate}
 
@@ -39,6 +42,19 @@ unfolding each contextRecords
 whole-records id a [] h g = refl
 whole-records id a (x ∷ xs) h g =
     rw (record-whole id 0 a x (name-short a h) (name-short x (left-of _ _ g)), whole-records id a xs h (right-of (nameOk x) _ g))
+
+-- what is read from a good 21H may be sent with its result, and fits its field
+pub transfer-goes : (b : List ℕ) → good21H b ≡ true → transferNameOk (getD b 2 0) (transferIn b) ≡ true
+unfolding transferNameOk transferIn
+transfer-goes b g = go (eqb (getD b 2 0) ACCEPTED) refl
+  where
+    go : (d : Bool) → eqb (getD b 2 0) ACCEPTED ≡ d
+        → cond d (nameOk (cond d (first (bodies 0x40 (walk (drop 4 b)))) [])) (empty (cond d (first (bodies 0x40 (walk (drop 4 b)))) [])) ≡ true
+    go true e = transfer-name b g (eqb-true _ _ e)
+    go false e = refl
+
+pub transfer-short : (b : List ℕ) → good21H b ≡ true → length (transferIn b) ≤ 64
+transfer-short b g = transfer-fits (getD b 2 0) (transferIn b) (transfer-goes b g)
 
 proposed-sheet : (bs : List (List ℕ)) → all good20H bs ≡ true → each (bodyRecords 0x20) bs ≡ sheetOf (map contextOf bs)
 unfolding each bodyRecords sheetOf contextOf
@@ -52,7 +68,7 @@ unfolding each bodyRecords answerSheetOf answerOf
 answered-sheet [] g = refl
 answered-sheet (b ∷ bs) g =
     let z : length {A = ℕ} [] ≤ 64 = omega arith in
-    rw (record-whole (answerOf b .id) (answerOf b .result) [] (answerOf b .transfer) z (name-short (answerOf b .transfer) (transfer-name b (left-of _ _ g))), answered-sheet bs (right-of (good21H b) _ g))
+    rw (record-whole (answerOf b .id) (answerOf b .result) [] (answerOf b .transfer) z (transfer-short b (left-of _ _ g)), answered-sheet bs (right-of (good21H b) _ g))
 
 -- what the code puts into the sheet is the sheet of the contexts
 module _ (x : List ℕ) where

@@ -9,6 +9,7 @@ use Rattle.laws.specs.Refusals.{firstDue}
 use Rattle.numbers.specs.Refusals.{NOT-REFUSED, SHORT-OUTPUT, NO-SUCH-PDU}
 use Rattle.numbers.specs.Kinds.{ASSOCIATE-RQ}
 use Rattle.numbers.specs.Lengths.{RECORD}
+use Rattle.numbers.specs.Results.{ACCEPTED}
 use Rattle.octets.specs.Put.{front}
 use Rattle.items.specs.Items.{walk, bodies, first, place}
 use Rattle.judging.specs.Pdu.{versionOf, topItems, kindOf, maximumOf}
@@ -21,9 +22,13 @@ use Rattle.reading.specs.declared.associate.Associate.{Associate}
 unfoldable pub contextOf : List ℕ → Context
 contextOf b = record { id = getD b 0 0; abstr = first (bodies 0x30 (walk (drop 4 b))); transfers = bodies 0x40 (walk (drop 4 b)) }
 
+-- the transfer name in the body of a 21H: a refused context "reads into the sheet with transfer length 0", whatever follows its four bytes
+unfoldable pub transferIn : List ℕ → List ℕ
+transferIn b = cond (eqb (getD b 2 0) ACCEPTED) (first (bodies 0x40 (walk (drop 4 b)))) []
+
 -- the answer in the body of a 21H
 unfoldable pub answerOf : List ℕ → Answered
-answerOf b = record { id = getD b 0 0; result = getD b 2 0; transfer = first (bodies 0x40 (walk (drop 4 b))) }
+answerOf b = record { id = getD b 0 0; result = getD b 2 0; transfer = transferIn b }
 
 -- the contexts that an RQ proposes, and the answers of an AC, in PDU order
 unfoldable pub proposed : List ℕ → List Context

@@ -6,6 +6,7 @@ ghost use Rattle.numbers.specs.Lengths.{RECORD};
 ghost use Rattle.octets.specs.Private.Put.{Put};
 ghost use Rattle.items.specs.Items.{walk, bodies};
 ghost use Rattle.sheets.specs.Record.{recordOf};
+ghost use Rattle.reading.specs.Associate.{transferIn};
 ghost use Rattle.reading.specs.Private.Records.{each, bodyRecords, allRecords};
 
 // What follows the four bytes of a context.
@@ -76,13 +77,23 @@ fn put_transfers(sheet: &mut [u8], from: usize, id: u8, a: &[u8], s: &[u8]) -> u
     n
 }
 
+// The transfer name of an answer: none where the context was refused.
+fn transfer_in(b: &[u8]) -> &[u8]
+    ensures { λ r. ⌜ now r ≡ transferIn (now (b .entry)) ⌝ }
+{
+    if octets::byte_at(b, 2) != numbers::ACCEPTED {
+        return &b[0..0];
+    }
+    items::first_of(0x40, behind_four(b))
+}
+
 fn put_context(k: u8, sheet: &mut [u8], n: usize, b: &[u8]) -> usize
     requires { ⌜ n + length (bodyRecords k (now b)) ≤ length (now sheet) ⌝ }
     ensures { λ r. ⌜ Put (now (sheet .entry)) n (bodyRecords k (now (b .entry))) r (now (sheet .exit)) ⌝ }
 {
-    let s = behind_four(b);
     let id = octets::byte_at(b, 0);
     if k == 0x20 {
+        let s = behind_four(b);
         return put_transfers(sheet, n, id, items::first_of(0x30, s), s);
     }
     put_record(
@@ -91,7 +102,7 @@ fn put_context(k: u8, sheet: &mut [u8], n: usize, b: &[u8]) -> usize
         id,
         octets::byte_at(b, 2),
         &b[0..0],
-        items::first_of(0x40, s),
+        transfer_in(b),
     )
 }
 

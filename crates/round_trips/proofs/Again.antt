@@ -1,35 +1,44 @@
--- What is read from any valid RQ or AC may be written again: its fields are good contents, and the PDU of them is no longer than the one that was read, since only what is skipped goes.
+-- What is read from any valid RQ or AC may be written again: its fields are good contents, and the PDU of them is no longer than the one that was read, since only what is skipped goes,
+-- but for 4 bytes at most for each refused context of an AC, whose empty sub-item may not have been there.
 -- Assumes nothing.
-use Prim.Native.Nat.{ℕ, _+_, _-_, _≤_}
+use Prim.Native.Nat.{ℕ, _+_, _-_, _*_, _≤_, _<_}
 use native.Mathlib.Omega.{arith}
 use mathlib.Core.Bool.{true, _&&_, or-true}
-use mathlib.Core.List.{List, _++_, map}
+use mathlib.Core.List.{List, [], _∷_, _++_, map}
 use mathlib.Core.Path.{_≡_, refl, sym, ap, _∙_}
-use lib.ListN.{length, take, drop, replicate, length-append, length-drop}
+use lib.ListN.{length, take, drop, getD, replicate, length-append, length-drop}
 use lib.Seq.{length-take-le}
 use lib.Dec.{leb, eqb}
-use borrow.Author.Tests.{eq-eqb}
-use Rattle.laws.specs.Lists.{among}
+use borrow.Author.Tests.{eq-eqb, eqb-true}
+use Rattle.laws.specs.Lists.{all, among, distinct}
 use Rattle.laws.proofs.Booleans.{left-of, right-of, both-of}
 use Rattle.names.specs.Name.{nameOk}
+use Rattle.names.proofs.NameLaws.{name-short}
 use Rattle.titles.specs.Title.{titleOk}
 use Rattle.items.specs.Items.{walk, bodies, first}
 use Rattle.items.specs.Wire.{itemsBytes}
 use Rattle.items.proofs.HoldLaws.{first-good}
+use Rattle.items.proofs.WireLaws.{item-length}
 use Rattle.contents.specs.Contents.{good50H, topGood, itemsOk}
 use Rattle.contents.proofs.GoodLaws.{one-filled, one-count, one-50, maximum-four, items-filled, items-good, items-counts}
+use Rattle.numbers.specs.Lengths.{HEADER, BUFFER}
+use Rattle.numbers.specs.Refusals.{NOT-REFUSED}
 use Rattle.numbers.specs.Kinds.{ASSOCIATE-RQ, ASSOCIATE-AC}
 use Rattle.judging.specs.Pdu.{whole, pduLength, calledOf, callingOf, topItems, requestOk, kindOf}
 use Rattle.judging.proofs.KindLaws.{kind-whole, kind-request, request-long, accept-long, request-items, accept-items, whole-length, whole-limit}
+use Rattle.sheets.specs.Contexts.{Answered, answeredId, answeredOk, allAnsweredOk}
+use Rattle.sheets.specs.Sheet.{answersIn, answersOk}
+use Rattle.sheets.proofs.Inverse.{answered-fits, answers-answered, answers-length}
+use Rattle.sheet_room.proofs.Room.{answer-most, answers-most}
 use Rattle.reading.proofs.Meaning.{request-sheet-good, request-sheet-back, accept-sheet-good, accept-sheet-back}
-use Rattle.reading.specs.Associate.{proposed, answered, applicationOf}
-use Rattle.writing.specs.Fields.{rqGood, acGood}
+use Rattle.reading.specs.Associate.{proposed, answered, applicationOf, sheetIn}
+use Rattle.writing.specs.Fields.{AcFields, rqGood, acGood}
 use Rattle.writing.specs.Wire.{AssociatePdu, associateBytes, ourUser, contextBody, answerBody, rqPdu, acPdu}
 use Rattle.writing.specs.Form.{Form, formRefusal, sentBytes, rqForm, acForm}
 use Rattle.writing.proofs.FormLaws.{refusal-0}
-use Rattle.round_trips.specs.Trips.{RqTrip, AcTrip, rqRead, acRead}
+use Rattle.round_trips.specs.Trips.{RqTrip, AcTrip, rqRead, acRead, refusals}
 use Rattle.round_trips.proofs.PduTrip.{Apart, top-good, among-top, associate-long}
-use Rattle.round_trips.proofs.ContextTrip.{ContextKind, proposing, answering, bodies-short}
+use Rattle.round_trips.proofs.ContextTrip.{ContextKind, proposing, answering, grown, bodies-short, none-grown, refused-grown}
 use Rattle.round_trips.proofs.Share.{share, three, first-share}
 use Rattle.round_trips.proofs.SentTrip.{sent-rq, sent-ac}
 
@@ -65,10 +74,10 @@ module _ (k : ℕ) (w : Apart k) (s : List ℕ) (g : itemsOk k s ≡ true) where
       let t = three 0x10 k 0x50 s (w .name′) refl (w .user) (items-filled k s g) in
       omega arith
 
--- ---- of either: what is read from a PDU, written again, takes no more bytes
+-- ---- of either: how many bytes what is read from a PDU takes, written again
 module _ {C : Type 0} (k : ContextKind C) (pdu : List ℕ) (n : 74 ≤ length pdu) (g : itemsOk (k .type) (topItems pdu) ≡ true) where
   shorter : (f : AssociatePdu) → length (f .middle) ≡ 64 → f .user ≡ ourUser → f .application ≡ applicationOf pdu → f .context ≡ k .type
-      → f .bodies ≡ map (k .body) (map (k .read) (bodies (k .type) (walk (topItems pdu)))) → length (associateBytes f) ≤ length pdu
+      → f .bodies ≡ map (k .body) (map (k .read) (bodies (k .type) (walk (topItems pdu)))) → length (associateBytes f) ≤ length pdu + grown k (map (k .read) (bodies (k .type) (walk (topItems pdu))))
   unfolding applicationOf
   shorter f m u a t b =
       let l = associate-long f m u in
@@ -110,7 +119,9 @@ module _ (pdu : List ℕ) (e : kindOf pdu ≡ ASSOCIATE-RQ) where
       let b = title-16 26 (omega arith) in
       let c = length-append (calledOf pdu) (callingOf pdu ++ replicate 32 0) in
       let d = length-append (callingOf pdu) (replicate 32 0) in
-      shorter proposing pdu n (request-items pdu e) (rqPdu (rqRead pdu)) (omega arith) refl refl refl (ap (map contextBody) (request-sheet-back pdu e))
+      let z = none-grown (proposed pdu) in
+      let s = shorter proposing pdu n (request-items pdu e) (rqPdu (rqRead pdu)) (omega arith) refl refl refl (ap (map contextBody) (request-sheet-back pdu e)) in
+      omega arith
 
   -- so with room for as many bytes no call refuses them
   pub rq-again : (room : ℕ) → length pdu ≤ room → formRefusal (rqForm (rqRead pdu)) room ≡ 0
@@ -122,6 +133,35 @@ module _ (pdu : List ℕ) (e : kindOf pdu ≡ ASSOCIATE-RQ) where
   rq-again-trip room h = sent-rq room (rqRead pdu) (rq-again room h)
 
 -- ---- an AC
+-- how long one of good contents can be
+answers-size : (cs : List Answered) → all answeredOk cs ≡ true → length (itemsBytes 0x21 (map answerBody cs)) ≤ 76 * length cs
+unfolding answerBody
+answers-size [] g = omega arith
+answers-size (c ∷ cs) g =
+    let t = answered-fits c (left-of _ _ g) in
+    let r = answers-size cs (right-of (answeredOk c) _ g) in
+    simp (length-append, item-length) (omega arith)
+
+-- 68 fixed bytes, at most 68 of a 10H, 76 of each of 128 21H, and 12 of our 50H
+ac-limit : (f : AcFields) → acGood f ≡ true → length (answersIn (f .sheet)) ≤ 128 → length (acForm f .pdu) - HEADER ≤ 9876
+unfolding acForm acPdu acGood allAnsweredOk
+ac-limit f g n =
+    let g₂ : (nameOk (f .application) && answersOk (f .sheet)) ≡ true = right-of (eqb (length (f .echoed)) 64) _ g in
+    let a = name-short (f .application) (left-of _ _ g₂) in
+    let k = answers-answered (f .sheet) (right-of (nameOk (f .application)) _ g₂) in
+    let s = answers-size (answersIn (f .sheet)) (left-of _ (distinct (map answeredId (answersIn (f .sheet)))) (right-of (leb 1 (length (answersIn (f .sheet)))) _ k)) in
+    let l = associate-long (acPdu f) (eqb-true _ _ (left-of _ _ g)) refl in
+    omega arith
+
+-- so it is refused neither with 5 nor, in a buffer with room for any PDU, with 2, where the sheet is a list of bytes, that is, of numbers below 256
+ac-allowed : (f : AcFields) → acGood f ≡ true → length (answersIn (f .sheet)) ≤ 128 → (room : ℕ) → BUFFER ≤ room → formRefusal (acForm f) room ≡ NOT-REFUSED
+unfolding acForm
+ac-allowed f g n room h = let l = ac-limit f g n in refusal-0 (acForm f) room g (omega arith) (omega arith)
+
+pub accept-never-long : (f : AcFields) → ((i : ℕ) → getD (f .sheet) i 0 < 256) → acGood f ≡ true → (room : ℕ) → BUFFER ≤ room → formRefusal (acForm f) room ≡ NOT-REFUSED
+unfolding acGood
+accept-never-long f b g = ac-allowed f g (answers-most (f .sheet) b (right-of (nameOk (f .application)) _ (right-of (eqb (length (f .echoed)) 64) _ g)))
+
 module _ (pdu : List ℕ) (e : kindOf pdu ≡ ASSOCIATE-AC) where
   echoed-64 : length (take 64 (drop 10 pdu)) ≡ 64
   echoed-64 = let n = accept-long pdu e in length-take-le 64 (drop 10 pdu) (omega (arith, length-drop 10 pdu))
@@ -130,13 +170,25 @@ module _ (pdu : List ℕ) (e : kindOf pdu ≡ ASSOCIATE-AC) where
   unfolding acGood applicationOf
   ac-again-good = both-of _ _ (eq-eqb (length (take 64 (drop 10 pdu))) 64 echoed-64) (both-of _ _ (top-name 0x21 (answering .apart) (topItems pdu) (accept-items pdu e)) (accept-sheet-good pdu e))
 
-  pub ac-again-short : length (acForm (acRead pdu) .pdu) ≤ length pdu
+  -- each refused context takes at most 4 bytes more than it came with
+  pub ac-again-longer : length (acForm (acRead pdu) .pdu) ≤ length pdu + 4 * refusals (answered pdu)
   unfolding acForm acPdu answered
-  ac-again-short = shorter answering pdu (accept-long pdu e) (accept-items pdu e) (acPdu (acRead pdu)) echoed-64 refl refl refl (ap (map answerBody) (accept-sheet-back pdu e))
+  ac-again-longer =
+      let z = refused-grown (answered pdu) in
+      let s = shorter answering pdu (accept-long pdu e) (accept-items pdu e) (acPdu (acRead pdu)) echoed-64 refl refl refl (ap (map answerBody) (accept-sheet-back pdu e)) in
+      omega arith
 
-  pub ac-again : (room : ℕ) → length pdu ≤ room → formRefusal (acForm (acRead pdu)) room ≡ 0
-  unfolding acForm
-  ac-again = allowed pdu (kind-whole pdu ASSOCIATE-AC e (λ z. omega arith)) (acForm (acRead pdu)) ac-again-good refl ac-again-short
+  -- the PDU is a list of bytes: then its odd IDs are at most 128
+  module _ (b : (i : ℕ) → getD pdu i 0 < 256) where
+    answers-128 : length (answersIn (sheetIn ASSOCIATE-AC pdu)) ≤ 128
+    answers-128 = let m = answer-most pdu b e in let l = answers-length (sheetIn ASSOCIATE-AC pdu) (accept-sheet-good pdu e) in omega arith
 
-  pub ac-again-trip : (room : ℕ) → length pdu ≤ room → AcTrip (acRead pdu) (sentBytes (acForm (acRead pdu)) room)
-  ac-again-trip room h = sent-ac room (acRead pdu) (ac-again room h)
+    pub ac-again-limit : length (acForm (acRead pdu) .pdu) - HEADER ≤ 9876
+    ac-again-limit = ac-limit (acRead pdu) ac-again-good answers-128
+
+    -- so neither 5 nor, in a buffer with room for any PDU, 2 comes
+    pub ac-again : (room : ℕ) → BUFFER ≤ room → formRefusal (acForm (acRead pdu)) room ≡ NOT-REFUSED
+    ac-again = ac-allowed (acRead pdu) ac-again-good answers-128
+
+    pub ac-again-trip : (room : ℕ) → BUFFER ≤ room → AcTrip (acRead pdu) (sentBytes (acForm (acRead pdu)) room)
+    ac-again-trip room h = sent-ac room (acRead pdu) (ac-again room h)

@@ -1,15 +1,17 @@
 -- The round trip of each PDU: what is written is a whole valid PDU of its kind, and reading it gives the same fields, a sheet byte for byte. And what may be read may be written again.
-use Prim.Native.Nat.{ℕ, _/_, _≤_}
+use Prim.Native.Nat.{ℕ, _+_, _/_, _≤_}
 use mathlib.Core.Path.{_≡_}
 use mathlib.Core.Bool.{true, cond}
-use mathlib.Core.List.{List}
+use mathlib.Core.List.{List, [], _∷_}
 use lib.ListN.{length, take, drop}
-use lib.Dec.{ltb}
+use lib.Dec.{ltb, eqb}
 use Rattle.numbers.specs.Refusals.{NOT-REFUSED, BAD-CONTENTS}
 use Rattle.numbers.specs.Kinds.{ASSOCIATE-RQ, ASSOCIATE-AC, ASSOCIATE-RJ, DATA-TF, ABORT}
 use Rattle.numbers.specs.Lengths.{HEADER, LONGEST, RECORD}
+use Rattle.numbers.specs.Results.{ACCEPTED}
 use Rattle.pdvs.specs.Data.{Pdv, pdvs}
 use Rattle.judging.specs.Pdu.{calledOf, callingOf, kindOf, acceptable as acceptableOf}
+use Rattle.sheets.specs.Contexts.{Answered}
 use Rattle.sheets.specs.Sheet.{contextsIn, answersIn}
 use Rattle.reading.specs.Associate.{proposed, answered, applicationOf, sheetIn, associateOf, filling}
 use Rattle.reading.specs.Values as values
@@ -79,3 +81,8 @@ rqRead pdu = record { called = calledOf pdu; calling = callingOf pdu; applicatio
 -- of an AC the echoed bytes stay in the PDU
 abbrev pub acRead : List ℕ → AcFields
 acRead pdu = record { echoed = take 64 (drop 10 pdu); application = applicationOf pdu; sheet = sheetIn ASSOCIATE-AC pdu }
+
+-- how many of the answers refuse their context
+unfoldable pub refusals : List Answered → ℕ
+refusals [] = 0
+refusals (c ∷ cs) = cond (eqb (c .result) ACCEPTED) 0 1 + refusals cs

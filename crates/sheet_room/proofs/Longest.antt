@@ -12,7 +12,7 @@ use Rattle.items.specs.Wire.{itemBytes}
 use Rattle.judging.specs.Pdu.{kindOf}
 use Rattle.judging.proofs.Examples.{judging-open}
 use Rattle.sheets.specs.Sheet.{recordBytes, contextRecords, sheetOf, answerSheetOf}
-use Rattle.reading.specs.Associate.{contextOf, answerOf, proposed, answered, sheetIn}
+use Rattle.reading.specs.Associate.{contextOf, transferIn, answerOf, proposed, answered, sheetIn}
 
 abbrev name : List ℕ
 name = bytes "1"
@@ -43,5 +43,5 @@ abbrev accept : ℕ → List ℕ
 accept n = pdu ASSOCIATE-AC (contexts n)
 
 pub answer-reached : (kindOf (accept 128) ≡ ASSOCIATE-AC) × (length (sheetIn ASSOCIATE-AC (accept 128)) ≡ 132 * 128)
-unfolding judging-open sheetIn answered answerOf answerSheetOf recordBytes
+unfolding judging-open sheetIn answered transferIn answerOf answerSheetOf recordBytes
 answer-reached = (refl, refl)

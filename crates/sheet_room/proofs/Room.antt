@@ -1,6 +1,6 @@
 -- How much room the sheet of a valid RQ or AC can take: 3,257 records in a proposal, 128 in an answer. A sheet with that room is never too short to read into.
 -- Assumes nothing.
-use Prim.Native.Nat.{ℕ, zero, suc, _+_, _*_, _≤_, _<_}
+use Prim.Native.Nat.{ℕ, zero, suc, _+_, _*_, _/_, _≤_, _<_}
 use native.Mathlib.Omega.{arith}
 use mathlib.Core.Bool.{Bool, true, false, not, _&&_, cond}
 use mathlib.Core.List.{List, [], _∷_, map}
@@ -9,9 +9,10 @@ use lib.ListN.{length, take, drop, getD, length-append, length-drop, length-map}
 use lib.Seq.{getD-take, getD-drop}
 use lib.Dec.{leb, ltb, eqb}
 use borrow.Author.Tests.{leb-true, le-ltb, lt-ltb, eqb-true}
-use Rattle.laws.specs.Lists.{all, among, distinct}
+use Rattle.laws.specs.Lists.{all, records, among, distinct}
 use Rattle.laws.proofs.Booleans.{left-of, right-of, both-of}
 use Rattle.numbers.specs.Refusals.{NOT-REFUSED, SHORT-OUTPUT, NO-SUCH-PDU}
+use Rattle.numbers.specs.Lengths.{RECORD}
 use Rattle.numbers.specs.Kinds.{ASSOCIATE-RQ, ASSOCIATE-AC}
 use Rattle.octets.specs.Octets.{odd}
 use Rattle.names.specs.Name.{nameOk}
@@ -19,13 +20,16 @@ use Rattle.names.proofs.NameLaws.{name-short}
 use Rattle.items.specs.Items.{Walk, walk, bodies, first}
 use Rattle.items.proofs.HoldLaws.{first-good}
 use Rattle.contents.specs.Contents.{bodyId, ids, good20H, good21H, good50H, topGood}
-use Rattle.contents.proofs.GoodLaws.{four-20, filled-20, abstract-names, transfer-names, counts-20, abstract-name, odd-21, transfer-name, one-50, one-filled, one-count, maximum-four, items-filled, items-good, items-counts, items-distinct, items-20, items-21}
+use Rattle.contents.proofs.GoodLaws.{four-20, filled-20, abstract-names, transfer-names, counts-20, abstract-name, odd-21, one-50, one-filled, one-count, maximum-four, items-filled, items-good, items-counts, items-distinct, items-20, items-21}
 use Rattle.judging.specs.Pdu.{kindOf}
 use Rattle.judging.proofs.KindLaws.{whole-length, whole-limit, kind-whole, request-items, accept-items}
-use Rattle.sheets.specs.Sheet.{contextRecords, sheetOf, answerSheetOf}
+use Rattle.sheets.specs.Contexts.{Answered, answeredId, answeredOk, allAnsweredOk}
+use Rattle.sheets.specs.Sheet.{contextRecords, sheetOf, answerSheetOf, recordsOf, recordId, answeredOf, answersIn, answersOk}
 use Rattle.sheets.proofs.RecordLaws.{record-length}
-use Rattle.reading.specs.Associate.{contextOf, answerOf, proposed, answered, sheetIn, associateRefusal, Read}
+use Rattle.sheets.proofs.Inverse.{answers-answered}
+use Rattle.reading.specs.Associate.{contextOf, transferIn, answerOf, proposed, answered, sheetIn, associateRefusal, Read}
 use Rattle.reading.specs.declared.associate.Associate.{Associate}
+use Rattle.reading.proofs.ReadLaws.{transfer-short}
 use Rattle.reading.proofs.Meaning.{refusal-is, request-records}
 use Rattle.sheet_room.proofs.Sizes.{sizes, sizesOf, sizes-most, by-items, size-filled}
 use Rattle.sheet_room.proofs.Distinct.{odds-most}
@@ -98,7 +102,7 @@ unfolding answerSheetOf answerOf
 answered-size [] g = refl
 answered-size (b ∷ bs) g =
     let z : length {A = ℕ} [] ≤ 64 = omega arith in
-    let l = record-length (getD b 0 0) (getD b 2 0) [] (first (bodies 0x40 (walk (drop 4 b)))) z (name-short _ (transfer-name b (left-of _ _ g))) in
+    let l = record-length (getD b 0 0) (getD b 2 0) [] (transferIn b) z (transfer-short b (left-of _ _ g)) in
     let r = answered-size bs (right-of (good21H b) _ g) in
     simp length-append (omega arith)
 
@@ -121,6 +125,37 @@ ids-bytes k =
         → all (λ x. ltb x 256) (map bodyId (cond d (take n (drop 4 s) ∷ bodies k w) (bodies k w))) ≡ true
     go s n w true p q = both-of _ _ p q
     go s n w false p q = q
+
+-- and so it is of a record
+cut-bytes : (n : ℕ) (s : List ℕ) → ((i : ℕ) → getD s i 0 < 256) → all (λ r. ltb (recordId r) 256) (records RECORD n s) ≡ true
+cut-bytes zero s b = refl
+cut-bytes (suc n) s b =
+    let h = b 0 in
+    both-of _ _ (lt-ltb (recordId (take RECORD s)) 256 (rw (getD-take RECORD s 0 0 (omega arith)) h)) (cut-bytes n (drop RECORD s) (λ i. rw (getD-drop RECORD s i 0) (b (RECORD + i))))
+
+pub records-bytes : (s : List ℕ) → ((i : ℕ) → getD s i 0 < 256) → all (λ r. ltb (recordId r) 256) (recordsOf s) ≡ true
+unfolding recordsOf
+records-bytes s b = cut-bytes (length s / RECORD) s b
+
+-- ---- a good answer sheet has at most 128 records, one for each odd number that a byte can be
+answers-odd : (cs : List Answered) → all answeredOk cs ≡ true → all odd (map answeredId cs) ≡ true
+unfolding answeredOk
+answers-odd [] g = refl
+answers-odd (c ∷ cs) g = both-of (odd (c .id)) _ (left-of (odd (c .id)) _ (left-of _ _ g)) (answers-odd cs (right-of (answeredOk c) _ g))
+
+answers-bytes : (rs : List (List ℕ)) → all (λ r. ltb (recordId r) 256) rs ≡ true → all (λ x. ltb x 256) (map answeredId (map answeredOf rs)) ≡ true
+unfolding answeredOf
+answers-bytes [] g = refl
+answers-bytes (r ∷ rs) g = both-of (ltb (recordId r) 256) _ (left-of (ltb (recordId r) 256) _ g) (answers-bytes rs (right-of (ltb (recordId r) 256) _ g))
+
+pub answers-most : (s : List ℕ) → ((i : ℕ) → getD s i 0 < 256) → answersOk s ≡ true → length (answersIn s) ≤ 128
+unfolding allAnsweredOk answersIn
+answers-most s b g =
+    let k : (leb 1 (length (answersIn s)) && (all answeredOk (answersIn s) && distinct (map answeredId (answersIn s)))) ≡ true = answers-answered s g in
+    let r : (all answeredOk (answersIn s) && distinct (map answeredId (answersIn s))) ≡ true = right-of (leb 1 (length (answersIn s))) _ k in
+    let n = odds-most 128 (map answeredId (answersIn s)) (right-of (all answeredOk (answersIn s)) _ r) (answers-odd (answersIn s) (left-of _ _ r)) (answers-bytes (recordsOf s) (records-bytes s b)) in
+    let l = length-map (answersIn s) answeredId in
+    omega arith
 
 -- ---- the most that a valid PDU can fill
 -- an RQ: PDU-length 16,384, of which 68 are fixed, 5 for a 10H, 12 for a 50H, 13 for a 20H and 5 for each of its 40H

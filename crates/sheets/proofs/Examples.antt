@@ -60,17 +60,30 @@ unfolding sheets-open
 part-record = refl
 
 -- answers: result 4 is the last, and an ID comes once
-pub result-four : answersOk (recordBytes 1 0 [] implicit ++ recordBytes 3 4 [] implicit) ≡ true
+pub result-four : answersOk (recordBytes 1 0 [] implicit ++ recordBytes 3 4 [] []) ≡ true
 unfolding sheets-open
 result-four = refl
 
-pub result-five : answersOk (recordBytes 1 5 [] implicit) ≡ false
+pub result-five : answersOk (recordBytes 1 5 [] []) ≡ false
 unfolding sheets-open
 result-five = refl
 
-pub twice : answersOk (recordBytes 1 0 [] implicit ++ recordBytes 1 3 [] implicit) ≡ false
+pub twice : answersOk (recordBytes 1 0 [] implicit ++ recordBytes 1 3 [] []) ≡ false
 unfolding sheets-open
 twice = refl
+
+-- a refused record that carries a transfer name; one with a byte in its transfer field; an accepted one without a name
+pub refused-name : answersOk (recordBytes 1 0 [] implicit ++ recordBytes 3 4 [] implicit) ≡ false
+unfolding sheets-open
+refused-name = refl
+
+pub refused-byte : answersOk (take 131 (recordBytes 3 1 [] []) ++ (7 ∷ [])) ≡ false
+unfolding sheets-open
+refused-byte = refl
+
+pub accepted-nameless : answersOk (recordBytes 1 0 [] []) ≡ false
+unfolding sheets-open
+accepted-nameless = refl
 
 -- result 1 in a proposal; an abstract name in an answer; an unused byte that is not zero
 pub proposed-result : proposalOk (recordBytes 1 1 verification implicit) ≡ false

@@ -10,10 +10,10 @@ use lib.Seq.{length-take-le, drop-drop}
 use lib.Dec.{leb, eqb}
 use borrow.Author.Needs.{needs}
 use borrow.Author.Tests.{le-leb, lt-leb, eq-eqb, ne-eqb, eqb-true, eqb-false, not-true, not-false}
-use Rattle.laws.specs.Lists.{all, distinct, sameBytes}
+use Rattle.laws.specs.Lists.{all, empty, distinct, sameBytes}
 use Rattle.laws.proofs.Booleans.{left-of, right-of, both-of, held}
 use Rattle.laws.proofs.Places.{all-passes, all-fails, all-end, part-tail}
-use Rattle.laws.proofs.Tests.{and-step, no-here, call-not, call-yes}
+use Rattle.laws.proofs.Tests.{and-step, no-here, call-not, call-yes, decide}
 use Rattle.laws.proofs.Same.{same-equal}
 use Rattle.names.specs.Name.{nameOk}
 use Rattle.octets.specs.Octets.{odd}
@@ -88,6 +88,13 @@ module _ (x a : List ℕ) (e : x ≡ a) (b : Bool) where
   transfer-as result q = q ∙ ap (transferNameOk result) e
 
 pub ruleset one-laws = (and-step, no-here, call-not, call-yes, eq-eqb, ne-eqb, le-leb, lt-leb, both-of, not-left, not-right, name-yes, name-not, name-as, transfer-as, needs)
+
+-- ---- `transfer_name_ok`
+pub no-name : (x : List ℕ) → eqb (length x) 0 ≡ empty x
+no-name [] = refl
+no-name (y ∷ x) = ne-eqb (length (y ∷ x)) 0 (λ e. omega arith)
+
+pub ruleset transfer-laws = (decide, no-name)
 
 -- ---- `record_ok`
 module _ (k : Kind) (r : List ℕ) (b : Bool) where

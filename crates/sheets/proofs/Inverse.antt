@@ -9,11 +9,13 @@ use lib.ListN.{length, take, drop, getD, replicate, length-append, length-drop, 
 use lib.Seq.{take-take, take-at, drop-at, drop-drop, length-take-le}
 use lib.Dec.{leb, eqb}
 use borrow.Author.Tests.{le-leb, eq-eqb, leb-true, eqb-true, not-true}
-use Rattle.laws.specs.Lists.{all, records, sameBytes, among, distinct}
+use Rattle.laws.specs.Lists.{all, empty, records, sameBytes, among, distinct}
 use Rattle.laws.proofs.Booleans.{left-of, right-of, both-of, held, holds}
 use Rattle.laws.proofs.Same.{same-equal, same-self}
 use Rattle.names.specs.Name.{nameOk}
 use Rattle.names.proofs.NameLaws.{name-short}
+use Rattle.numbers.specs.Lengths.{RECORD}
+use Rattle.numbers.specs.Results.{ACCEPTED}
 use Rattle.octets.specs.Octets.{odd}
 use Rattle.sheets.specs.Contexts.{Context, Answered, contextId, answeredId, contextOk, transferNameOk, answeredOk, contextsOk, allAnsweredOk}
 use Rattle.sheets.specs.Sheet.{field, recordBytes, contextRecords, sheetOf, answerSheetOf, recordsOf, recordId, abstractOf, transferOf, goesOn, firstTransfers, others, start, sheetRuns, contextsIn, answeredOf, answersIn, zero?, fieldOk, fieldsOk, proposes, siteRecord, answers, proposalOk, answersOk, siteOk}
@@ -23,7 +25,12 @@ use Rattle.sheets.proofs.RunLaws.{records-cons, no-run}
 -- a transfer name fits its field, for each result
 pub transfer-fits : (result : ℕ) (x : List ℕ) → transferNameOk result x ≡ true → length x ≤ 64
 unfolding transferNameOk
-transfer-fits result x e = name-short x e
+transfer-fits result x = go (eqb result ACCEPTED) x
+  where
+    go : (d : Bool) (x : List ℕ) → cond d (nameOk x) (empty x) ≡ true → length x ≤ 64
+    go true x e = name-short x e
+    go false [] e = omega arith
+    go false (y ∷ x) e = absurd (held false e)
 
 -- ---- a record whose unused bytes are zero is the bytes of what it says
 zeros-are : (l : List ℕ) → all zero? l ≡ true → l ≡ replicate (length l) 0
@@ -187,6 +194,27 @@ module _ (s : List ℕ) (k : answersOk s ≡ true) where
       sheet-back answers (map answeredOf) answerSheetOf refl (λ r rs l g. ap (λ (b : List ℕ). b ++ answerSheetOf (map answeredOf rs)) (answers-back-one r l g))
       s answers-whole (answers-good .formed)
 
+-- ---- an answer takes one record
+pub answered-fits : (c : Answered) → answeredOk c ≡ true → length (c .transfer) ≤ 64
+unfolding answeredOk
+answered-fits c k =
+    let o : (leb (c .result) 4 && transferNameOk (c .result) (c .transfer)) ≡ true = right-of (odd (c .id)) _ k in
+    transfer-fits (c .result) (c .transfer) (right-of (leb (c .result) 4) _ o)
+
+pub answered-length : (cs : List Answered) → all answeredOk cs ≡ true → length (answerSheetOf cs) ≡ RECORD * length cs
+unfolding answerSheetOf
+answered-length [] g = refl
+answered-length (c ∷ cs) g =
+    let l = record-length (c .id) (c .result) [] (c .transfer) (omega arith) (answered-fits c (left-of _ _ g)) in
+    let r = answered-length cs (right-of (answeredOk c) _ g) in
+    simp length-append (omega arith)
+
+pub answers-length : (s : List ℕ) → answersOk s ≡ true → length s ≡ RECORD * length (answersIn s)
+unfolding allAnsweredOk
+answers-length s k =
+    let o : (leb 1 (length (answersIn s)) && (all answeredOk (answersIn s) && distinct (map answeredId (answersIn s)))) ≡ true = answers-answered s k in
+    ap length (sym (answer-sheet-back s k)) ∙ answered-length (answersIn s) (left-of _ _ (right-of (leb 1 (length (answersIn s))) _ o))
+
 pub site-whole : (s : List ℕ) → siteOk s ≡ true → length s % 132 ≡ 0
 unfolding siteOk
 site-whole s k = eqb-true _ _ (left-of _ (leb 1 (length (recordsOf s)) && all siteRecord (recordsOf s)) k)
@@ -340,12 +368,9 @@ answering-row c s cs l w =
     (ap (map answeredOf) (records-front (recordBytes (c .id) (c .result) [] (c .transfer)) s m) ∙ (λ i. record { id = c .id; result = c .result; transfer = q i } ∷ b i)) w
 
 answering : (cs : List Answered) → all answeredOk cs ≡ true → Answering (answerSheetOf cs) cs
-unfolding answerSheetOf answeredOk answersIn recordsOf
+unfolding answerSheetOf answersIn recordsOf
 answering [] k = record { whole = refl; formed = refl; back = refl }
-answering (c ∷ cs) k =
-    let o : (odd (c .id) && (leb (c .result) 4 && transferNameOk (c .result) (c .transfer))) ≡ true = left-of _ _ k in
-    let l = transfer-fits (c .result) (c .transfer) (right-of (leb (c .result) 4) _ (right-of (odd (c .id)) _ o)) in
-    answering-row c (answerSheetOf cs) cs l (answering cs (right-of (answeredOk c) _ k))
+answering (c ∷ cs) k = answering-row c (answerSheetOf cs) cs (answered-fits c (left-of _ _ k)) (answering cs (right-of (answeredOk c) _ k))
 
 module _ (cs : List Answered) (k : allAnsweredOk cs ≡ true) where
   answered-parts : (leb 1 (length cs) && (all answeredOk cs && distinct (map answeredId cs))) ≡ true

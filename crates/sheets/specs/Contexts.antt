@@ -1,11 +1,12 @@
 -- The presentation contexts of an association: those that a requestor proposes, and an acceptor's answers to them.
 use Prim.Native.Nat.{ℕ}
-use mathlib.Core.Bool.{Bool, _&&_}
+use mathlib.Core.Bool.{Bool, _&&_, cond}
 use mathlib.Core.List.{List, map}
 use lib.ListN.{length}
-use lib.Dec.{leb}
+use lib.Dec.{leb, eqb}
+use Rattle.laws.specs.Lists.{all, empty, distinct}
+use Rattle.numbers.specs.Results.{ACCEPTED}
 use Rattle.octets.specs.Octets.{odd}
-use Rattle.laws.specs.Lists.{all, distinct}
 use Rattle.names.specs.Name.{nameOk}
 
 -- a proposed context: its abstract name, and the transfer names offered for it
@@ -14,7 +15,7 @@ pub record Context : Type 0 where
   pub abstr : List ℕ
   pub transfers : List (List ℕ)
 
--- an answered context
+-- an answered context: a refused one has no transfer name
 pub record Answered : Type 0 where
   pub id : ℕ
   pub result : ℕ
@@ -30,11 +31,11 @@ answeredId c = c .id
 unfoldable pub contextOk : Context → Bool
 contextOk c = odd (c .id) && (nameOk (c .abstr) && (leb 1 (length (c .transfers)) && all nameOk (c .transfers)))
 
--- "exactly one 40H with a name (for each result)"
+-- "exactly one 40H with a name"; "4 for a refused record to be sent that carries a transfer name"
 unfoldable pub transferNameOk : ℕ → List ℕ → Bool
-transferNameOk result x = nameOk x
+transferNameOk result x = cond (eqb result ACCEPTED) (nameOk x) (empty x)
 
--- "21H: ID odd, .., result 0 to 4, .., exactly one 40H with a name (for each result)."
+-- "21H: ID odd, .., result 0 to 4, .."
 unfoldable pub answeredOk : Answered → Bool
 answeredOk c = odd (c .id) && (leb (c .result) 4 && transferNameOk (c .result) (c .transfer))
 

@@ -88,10 +88,13 @@ fn proposal_record(r: &[u8]) -> bool
     named(r)
 }
 
-// The transfer name that goes with a result.
+// Whether the transfer name goes with the result: none with one that refuses.
 fn transfer_name_ok(result: u8, x: &[u8]) -> bool
     ensures { λ b. ⌜ b ≡ transferNameOk result (now (x .entry)) ⌝ }
 {
+    if result != numbers::ACCEPTED {
+        return x.len() == 0;
+    }
     names::name_ok(x)
 }
 

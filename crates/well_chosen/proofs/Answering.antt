@@ -7,15 +7,16 @@ use mathlib.Core.Bool.{Bool, true, false, not, _&&_, cond}
 use mathlib.Core.List.{List, [], _∷_, _++_, map}
 use mathlib.Core.Path.{_≡_, refl, sym, ap, _∙_}
 use lib.ListN.{length, take, drop, getD, replicate, length-append, length-take, length-drop, length-map, List·getD-eq-default}
-use lib.Seq.{length-take-le, getD-take, getD-drop}
+use lib.Seq.{length-take-le, getD-take}
 use lib.Dec.{leb, ltb, eqb}
-use borrow.Author.Tests.{eqb-true, eq-eqb, lt-ltb, le-ltb, not-false}
+use borrow.Author.Tests.{eqb-true, eqb-false, eq-eqb, le-ltb, not-false}
 use Rattle.laws.specs.Lists.{all, records, distinct}
 use Rattle.laws.proofs.Booleans.{left-of, right-of, both-of}
 use Rattle.laws.proofs.Refusals.{not-due}
 use Rattle.numbers.specs.Kinds.{ASSOCIATE-RQ}
 use Rattle.numbers.specs.Lengths.{RECORD}
 use Rattle.numbers.specs.Refusals.{NOT-REFUSED, NO-SUCH-PDU}
+use Rattle.numbers.specs.Results.{ACCEPTED}
 use Rattle.octets.specs.Octets.{odd}
 use Rattle.octets.specs.Put.{front}
 use Rattle.octets.proofs.PutLaws.{front-start}
@@ -36,6 +37,7 @@ use Rattle.writing.specs.Wire.{contextBody, answerBody, rqPdu, acPdu}
 use Rattle.writing.specs.Form.{rqForm, acForm, formRefusal}
 use Rattle.writing.proofs.FormLaws.{refusal-0}
 use Rattle.sheet_room.proofs.Distinct.{odds-most}
+use Rattle.sheet_room.proofs.Room.{records-bytes}
 use Rattle.round_trips.specs.Trips.{rqRead}
 use Rattle.round_trips.proofs.PduTrip.{associate-long}
 use Rattle.round_trips.proofs.Again.{rq-again-good, rq-again-short}
@@ -44,7 +46,7 @@ use Rattle.choosing.specs.Choice.{Liked, siteIn, chosen, chosenFor}
 use Rattle.choosing.specs.Call.{chooseRefusal}
 use Rattle.choosing.specs.declared.Chosen.{Chosen}
 use Rattle.well_chosen.specs.Answering.{recordsIn, Bytes, Chain, responseOf, Answering}
-use Rattle.well_chosen.proofs.Meaning.{was-proposed}
+use Rattle.well_chosen.proofs.Meaning.{well-chosen, was-proposed}
 use Rattle.well_chosen.proofs.Written as written
 
 -- ---- an answer takes no more bytes than the context that it answers
@@ -53,22 +55,28 @@ name-in-items x [] k h e = absurd (omega arith)
 name-in-items x (y ∷ ys) zero h e = let l = ap length e in simp (length-append, item-length) (omega arith)
 name-in-items x (y ∷ ys) (suc k) h e = let r = name-in-items x ys k (omega arith) e in simp (length-append, item-length) (omega arith)
 
-answer-shorter : (ws : List Liked) (c : Context) → contextOk c ≡ true → length (answerBody (chosen ws c)) ≤ length (contextBody c)
+answer-shorter : (ws : List Liked) (c : Context) → length (answerBody (chosen ws c)) ≤ length (contextBody c)
 unfolding answerBody contextBody
-answer-shorter ws c g =
-    let o = was-proposed c g ws in
-    let l = name-in-items (chosen ws c .transfer) (c .transfers) (o .place) (o .there) (o .same) in
+answer-shorter ws c =
+    let t = name-shorter (eqb (chosen ws c .result) ACCEPTED) refl in
     let a = item-length 0x40 (chosen ws c .transfer) in
     let b = item-length 0x30 (c .abstr) in
     let n = length-append (itemBytes 0x30 (c .abstr)) (itemsBytes 0x40 (c .transfers)) in
     omega arith
+  where
+    name-shorter : (d : Bool) → eqb (chosen ws c .result) ACCEPTED ≡ d → length (chosen ws c .transfer) ≤ length (itemsBytes 0x40 (c .transfers))
+    name-shorter true e =
+        let o = was-proposed ws c (eqb-true _ _ e) in
+        let l = name-in-items (chosen ws c .transfer) (c .transfers) (o .place) (o .there) (o .same) in
+        omega arith
+    name-shorter false e = let z = ap length (well-chosen ws c .refused (eqb-false _ _ e)) in omega arith
 
-answers-shorter : (ws : List Liked) (cs : List Context) → all contextOk cs ≡ true → length (itemsBytes 0x21 (map answerBody (chosenFor ws cs))) ≤ length (itemsBytes 0x20 (map contextBody cs))
+answers-shorter : (ws : List Liked) (cs : List Context) → length (itemsBytes 0x21 (map answerBody (chosenFor ws cs))) ≤ length (itemsBytes 0x20 (map contextBody cs))
 unfolding chosenFor
-answers-shorter ws [] g = omega arith
-answers-shorter ws (c ∷ cs) g =
-    let l = answer-shorter ws c (left-of _ _ g) in
-    let r = answers-shorter ws cs (right-of (contextOk c) _ g) in
+answers-shorter ws [] = omega arith
+answers-shorter ws (c ∷ cs) =
+    let l = answer-shorter ws c in
+    let r = answers-shorter ws cs in
     simp (length-append, item-length) (omega arith)
 
 -- ---- a good proposal has at most 128 contexts: its IDs are odd bytes, and none comes twice
@@ -90,18 +98,12 @@ runs-bytes (r ∷ rs) g = both-of (byte? (recordId r)) _ (left-of (byte? (record
     go [] true h = h
     go (c ∷ cs) true h = right-of (byte? (c .id)) _ h
 
-records-bytes : (n : ℕ) (s : List ℕ) → Bytes s → all (λ r. byte? (recordId r)) (records RECORD n s) ≡ true
-records-bytes zero s b = refl
-records-bytes (suc n) s b =
-    let h = b 0 in
-    both-of _ _ (lt-ltb (recordId (take RECORD s)) 256 (rw (getD-take RECORD s 0 0 (omega arith)) h)) (records-bytes n (drop RECORD s) (λ i. rw (getD-drop RECORD s i 0) (b (RECORD + i))))
-
 pub contexts-most : (s : List ℕ) → Bytes s → proposalOk s ≡ true → length (contextsIn s) ≤ 128
 unfolding contextsOk contextsIn recordsOf
 contexts-most s b g =
     let k = proposal-contexts s g in
     let r : (all contextOk (contextsIn s) && distinct (map contextId (contextsIn s))) ≡ true = right-of (leb 1 (length (contextsIn s))) _ k in
-    let n = odds-most 128 (map contextId (contextsIn s)) (right-of (all contextOk (contextsIn s)) _ r) (contexts-odd (contextsIn s) (left-of _ _ r)) (runs-bytes (recordsOf s) (records-bytes (length s / RECORD) s b)) in
+    let n = odds-most 128 (map contextId (contextsIn s)) (right-of (all contextOk (contextsIn s)) _ r) (contexts-odd (contextsIn s) (left-of _ _ r)) (runs-bytes (recordsOf s) (records-bytes s b)) in
     let l = length-map (contextsIn s) contextId in
     omega arith
 
@@ -190,12 +192,6 @@ module _ (pdu site answer′ : List ℕ) (f : Associate) (c : Chosen) (h : Chain
       both-of _ _ (eq-eqb (length (response .echoed)) 64 echoed-64)
       (both-of _ _ (ap nameOk application-is ∙ application-good) (written.given-good proposal site (h .answer) c answer′ (h .chose) not-refused))
 
-  contexts-good : all contextOk (proposed pdu) ≡ true
-  unfolding contextsOk
-  contexts-good =
-      let e : contextsOk (proposed pdu) ≡ true = ap contextsOk (sym (request-sheet-back pdu request-is)) ∙ proposal-contexts (sheetIn ASSOCIATE-RQ pdu) (request-sheet-good pdu request-is) in
-      left-of _ _ (right-of (leb 1 (length (proposed pdu))) _ e)
-
   -- the AC is no longer than the RQ
   pub response-short : length (acForm response .pdu) ≤ length pdu
   unfolding acForm acPdu rqForm rqPdu
@@ -210,7 +206,7 @@ module _ (pdu site answer′ : List ℕ) (f : Associate) (c : Chosen) (h : Chain
       let i = ap length application-is in
       let j = ap (λ (l : List Answered). length (itemsBytes 0x21 (map answerBody l))) given-answers in
       let k = ap (λ (l : List Context). length (itemsBytes 0x20 (map contextBody l))) (request-sheet-back pdu request-is) in
-      let m = answers-shorter (siteIn site) (proposed pdu) contexts-good in
+      let m = answers-shorter (siteIn site) (proposed pdu) in
       let s = rq-again-short pdu request-is in
       omega arith
     where

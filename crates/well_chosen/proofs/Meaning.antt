@@ -1,4 +1,4 @@
--- What is chosen is well chosen: no better-liked match exists, every name was proposed, and the answers may be sent.
+-- What is chosen is well chosen: no better-liked match exists, every name was proposed, a refused context has none, and the answers may be sent.
 -- Assumes nothing.
 use Prim.Native.Nat.{ℕ, zero, suc, _<_}
 use native.Mathlib.Omega.{arith}
@@ -8,15 +8,16 @@ use mathlib.Core.List.{List, [], _∷_, map}
 use mathlib.Core.Path.{_≡_, refl, sym, ap, _∙_}
 use mathlib.Core.Logic.{_⊎_, inl, inr}
 use lib.ListN.{length, getD, length-map}
-use lib.Dec.{leb}
-use borrow.Author.Tests.{leb-true}
-use Rattle.laws.specs.Lists.{all, any, sameBytes, distinct}
+use lib.Dec.{leb, eqb}
+use borrow.Author.Tests.{eqb-true, eqb-false}
+use Rattle.laws.specs.Lists.{all, any, empty, sameBytes, distinct}
 use Rattle.laws.proofs.Booleans.{held, holds, left-of, right-of, both-of}
 use Rattle.laws.proofs.Same.{same-equal, same-self}
 use Rattle.names.specs.Name.{nameOk}
+use Rattle.numbers.specs.Results.{ACCEPTED, ABSTRACT-NOT-SUPPORTED, TRANSFER-NOT-SUPPORTED}
 use Rattle.octets.specs.Octets.{odd}
 use Rattle.sheets.specs.Contexts.{Context, Answered, contextId, answeredId, contextOk, transferNameOk, answeredOk, contextsOk, allAnsweredOk}
-use Rattle.choosing.specs.Choice.{Liked, ACCEPTED, ABSTRACT-NOT-SUPPORTED, TRANSFER-NOT-SUPPORTED, sameAbstract, wasProposed, matches, resultFor, firstProposed, transferFor, chosen, chosenFor}
+use Rattle.choosing.specs.Choice.{Liked, sameAbstract, wasProposed, matches, resultFor, transferFor, chosen, chosenFor}
 use Rattle.well_chosen.specs.Meaning.{OneOf, Matches, likedAt, Best, NoCommon, NotThere, WellChosen, ShutOut}
 
 -- ---- the tests say what their words say
@@ -189,20 +190,20 @@ module _ (c : Context) (ws : List Liked) where
       go true e = let o = some-at (sameAbstract c) ws e in absurd (n (o .0) (o .1 .0) (same-equal _ _ (held _ (o .1 .1))))
       go false e = refl
 
--- where none matches, the first proposed name
-refused-name : (c : Context) (ws : List Liked) → any (matches c) ws ≡ false → transferFor c ws ≡ firstProposed c
+-- where none matches, no name
+refused-name : (c : Context) (ws : List Liked) → any (matches c) ws ≡ false → transferFor c ws ≡ []
 unfolding transferFor
 refused-name c [] e = refl
 refused-name c (w ∷ ws) e = go (matches c w) e (refused-name c ws)
   where
-    go : (b : Bool) → (b || any (matches c) ws) ≡ false → (any (matches c) ws ≡ false → transferFor c ws ≡ firstProposed c) → cond b (w .transfer) (transferFor c ws) ≡ firstProposed c
+    go : (b : Bool) → (b || any (matches c) ws) ≡ false → (any (matches c) ws ≡ false → transferFor c ws ≡ []) → cond b (w .transfer) (transferFor c ws) ≡ []
     go true q f = absurd (held false (sym q))
     go false q f = f q
 
-refused-so : (c : Context) (ws : List Liked) → (resultFor c ws ≡ ACCEPTED → ⊥) → transferFor c ws ≡ firstProposed c
+refused-so : (c : Context) (ws : List Liked) → (resultFor c ws ≡ ACCEPTED → ⊥) → transferFor c ws ≡ []
 refused-so c ws n = go (any (matches c) ws) refl
   where
-    go : (d : Bool) → any (matches c) ws ≡ d → transferFor c ws ≡ firstProposed c
+    go : (d : Bool) → any (matches c) ws ≡ d → transferFor c ws ≡ []
     go true e = absurd (n (by-result c ws true (any (sameAbstract c) ws) e refl))
     go false e = refused-name c ws e
 
@@ -236,16 +237,14 @@ each-chosen ws [] k h c a = absurd (omega arith)
 each-chosen ws (x ∷ cs) zero h c a = well-chosen ws x
 each-chosen ws (x ∷ cs) (suc k) h c a = each-chosen ws cs k (omega arith) c a
 
--- ---- every chosen transfer name was proposed for that context
-transfer-proposed : (c : Context) (ws : List Liked) → leb 1 (length (c .transfers)) ≡ true → wasProposed c (transferFor c ws) ≡ true
-unfolding transferFor firstProposed wasProposed
-transfer-proposed c [] l = let h = leb-true 1 (length (c .transfers)) l in one-of-back (getD (c .transfers) 0 []) (c .transfers) 0 (omega arith) refl
-transfer-proposed c (w ∷ ws) l = go (matches c w) refl (transfer-proposed c ws l)
-  where
-    go : (b : Bool) → matches c w ≡ b → any (sameBytes (transferFor c ws)) (c .transfers) ≡ true → any (sameBytes (cond b (w .transfer) (transferFor c ws))) (c .transfers) ≡ true
-    go true q r = let o = matches-means c w q .transfer-name in one-of-back (w .transfer) (c .transfers) (o .place) (o .there) (o .same)
-    go false q r = r
+-- ---- the transfer name of an accepted context was proposed for it
+pub was-proposed : (ws : List Liked) (c : Context) → chosen ws c .result ≡ ACCEPTED → OneOf (chosen ws c .transfer) (c .transfers)
+was-proposed ws c e =
+    let b = well-chosen ws c .accepted e in
+    let o = b .matching .transfer-name in
+    record { place = o .place; there = o .there; same = o .same ∙ b .name }
 
+-- ---- the answers may be sent
 module _ (c : Context) (g : contextOk c ≡ true) where
   context-parts : (odd (c .id) && (nameOk (c .abstr) && (leb 1 (length (c .transfers)) && all nameOk (c .transfers)))) ≡ true
   unfolding contextOk
@@ -254,11 +253,6 @@ module _ (c : Context) (g : contextOk c ≡ true) where
   names-parts : (leb 1 (length (c .transfers)) && all nameOk (c .transfers)) ≡ true
   names-parts = right-of (nameOk (c .abstr)) _ (right-of (odd (c .id)) _ context-parts)
 
-  pub was-proposed : (ws : List Liked) → OneOf (chosen ws c .transfer) (c .transfers)
-  unfolding chosen
-  was-proposed ws = proposed-means c (transferFor c ws) (transfer-proposed c ws (left-of _ _ names-parts))
-
--- ---- the answers may be sent
 all-at : (p : List ℕ → Bool) (xs : List (List ℕ)) (k : ℕ) → k < length xs → all p xs ≡ true → p (getD xs k []) ≡ true
 all-at p [] k h g = absurd (omega arith)
 all-at p (x ∷ xs) zero h g = left-of _ _ g
@@ -273,12 +267,19 @@ result-most c ws = go (any (matches c) ws) (any (sameAbstract c) ws)
     go false true = refl
     go false false = refl
 
+name-goes : (ws : List Liked) (c : Context) → contextOk c ≡ true → transferNameOk (resultFor c ws) (transferFor c ws) ≡ true
+unfolding transferNameOk chosen
+name-goes ws c g = go (eqb (resultFor c ws) ACCEPTED) refl
+  where
+    go : (d : Bool) → eqb (resultFor c ws) ACCEPTED ≡ d → cond d (nameOk (transferFor c ws)) (empty (transferFor c ws)) ≡ true
+    go true e =
+        let o = was-proposed ws c (eqb-true _ _ e) in
+        ap nameOk (sym (o .same)) ∙ all-at nameOk (c .transfers) (o .place) (o .there) (right-of (leb 1 (length (c .transfers))) _ (names-parts c g))
+    go false e = ap empty (refused-so c ws (eqb-false _ _ e))
+
 answer-good : (ws : List Liked) (c : Context) → contextOk c ≡ true → answeredOk (chosen ws c) ≡ true
-unfolding answeredOk transferNameOk chosen
-answer-good ws c g =
-    let o = was-proposed c g ws in
-    let n : nameOk (transferFor c ws) ≡ true = ap nameOk (sym (o .same)) ∙ all-at nameOk (c .transfers) (o .place) (o .there) (right-of (leb 1 (length (c .transfers))) _ (names-parts c g)) in
-    both-of (odd (c .id)) _ (left-of (odd (c .id)) _ (context-parts c g)) (both-of _ _ (result-most c ws) n)
+unfolding answeredOk chosen
+answer-good ws c g = both-of (odd (c .id)) _ (left-of (odd (c .id)) _ (context-parts c g)) (both-of _ _ (result-most c ws) (name-goes ws c g))
 
 answers-good : (ws : List Liked) (cs : List Context) → all contextOk cs ≡ true → all answeredOk (chosenFor ws cs) ≡ true
 unfolding chosenFor

@@ -2,24 +2,20 @@
 -- Assumes nothing.
 use Prim.Native.Nat.{ℕ, _*_, _<_}
 use native.Mathlib.Omega.{arith}
-use mathlib.Core.Bool.{Bool, true, false, not, _&&_, cond}
-use mathlib.Core.List.{List, [], _∷_, map}
+use mathlib.Core.Bool.{Bool, true, false, not, cond}
+use mathlib.Core.List.{List, map}
 use mathlib.Core.Path.{_≡_, refl, sym, ap, _∙_}
-use lib.ListN.{length, take, drop, getD, length-append, length-map}
-use lib.Dec.{leb, eqb}
+use lib.ListN.{length, take, drop, getD, length-map}
+use lib.Dec.{eqb}
 use borrow.Author.Tests.{eqb-true, eq-eqb, ne-eqb, not-false}
-use Rattle.laws.specs.Lists.{all}
-use Rattle.laws.proofs.Booleans.{left-of, right-of}
 use Rattle.laws.proofs.Refusals.{not-due}
-use Rattle.octets.specs.Octets.{odd}
 use Rattle.octets.specs.Put.{front}
 use Rattle.octets.proofs.PutLaws.{front-start, front-behind}
 use Rattle.numbers.specs.Lengths.{RECORD}
 use Rattle.numbers.specs.Refusals.{NOT-REFUSED, BAD-CONTENTS}
-use Rattle.sheets.specs.Contexts.{Context, Answered, contextId, answeredId, transferNameOk, answeredOk, allAnsweredOk}
-use Rattle.sheets.specs.Sheet.{answerSheetOf, contextsIn, answersIn, proposalOk, answersOk, siteOk}
-use Rattle.sheets.proofs.RecordLaws.{record-length}
-use Rattle.sheets.proofs.Inverse.{transfer-fits, proposal-contexts, answered-back, answered-answers}
+use Rattle.sheets.specs.Contexts.{Context, Answered, contextId, answeredId, allAnsweredOk}
+use Rattle.sheets.specs.Sheet.{contextsIn, answersIn, proposalOk, answersOk, siteOk}
+use Rattle.sheets.proofs.Inverse.{proposal-contexts, answered-back, answered-answers, answers-length}
 use Rattle.choosing.specs.Choice.{siteIn, chosen, chosenFor}
 use Rattle.choosing.specs.Call.{chosenSheet, chooseRefusal, chosenOf, chosenBytes, Chose}
 use Rattle.choosing.specs.declared.Chosen.{Chosen}
@@ -27,16 +23,6 @@ use Rattle.well_chosen.specs.Meaning.{WellChosen}
 use Rattle.well_chosen.proofs.Meaning.{same-ids, all-good, each-chosen}
 
 -- ---- the answer sheet of a good proposal, whatever the site keeps
-sheet-length : (cs : List Answered) → all answeredOk cs ≡ true → length (answerSheetOf cs) ≡ RECORD * length cs
-unfolding answerSheetOf answeredOk
-sheet-length [] g = refl
-sheet-length (c ∷ cs) g =
-    let o : (odd (c .id) && (leb (c .result) 4 && transferNameOk (c .result) (c .transfer))) ≡ true = left-of _ _ g in
-    let t = transfer-fits (c .result) (c .transfer) (right-of (leb (c .result) 4) _ (right-of (odd (c .id)) _ o)) in
-    let l = record-length (c .id) (c .result) [] (c .transfer) (omega arith) t in
-    let r = sheet-length cs (right-of (answeredOk c) _ g) in
-    simp length-append (omega arith)
-
 module _ (proposal site : List ℕ) (g : proposalOk proposal ≡ true) where
   answers-are : allAnsweredOk (chosenFor (siteIn site) (contextsIn proposal)) ≡ true
   answers-are = all-good (siteIn site) (contextsIn proposal) (proposal-contexts proposal g)
@@ -55,11 +41,10 @@ module _ (proposal site : List ℕ) (g : proposalOk proposal ≡ true) where
   sheet-ids = ap (map answeredId) sheet-answers ∙ same-ids (siteIn site) (contextsIn proposal)
 
   pub sheet-size : length (chosenSheet proposal site) ≡ RECORD * length (contextsIn proposal)
-  unfolding chosenSheet allAnsweredOk chosenFor
+  unfolding chosenFor
   sheet-size =
-      let a = answers-are in
-      let l = sheet-length (chosenFor (siteIn site) (contextsIn proposal)) (left-of _ _ (right-of (leb 1 (length (chosenFor (siteIn site) (contextsIn proposal)))) _ a)) in
-      let n = length-map (contextsIn proposal) (chosen (siteIn site)) in
+      let l = answers-length (chosenSheet proposal site) sheet-good in
+      let n = ap length sheet-answers ∙ length-map (contextsIn proposal) (chosen (siteIn site)) in
       omega arith
 
 -- ---- a call

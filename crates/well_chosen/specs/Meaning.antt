@@ -4,8 +4,9 @@ use mathlib.Core.Path.{_≡_}
 use mathlib.Core.List.{List, []}
 use mathlib.Core.Logic.{_⊎_}
 use lib.ListN.{length, getD}
+use Rattle.numbers.specs.Results.{ACCEPTED, ABSTRACT-NOT-SUPPORTED, TRANSFER-NOT-SUPPORTED}
 use Rattle.sheets.specs.Contexts.{Context, Answered}
-use Rattle.choosing.specs.Choice.{Liked, ACCEPTED, ABSTRACT-NOT-SUPPORTED, TRANSFER-NOT-SUPPORTED, firstProposed}
+use Rattle.choosing.specs.Choice.{Liked}
 
 -- x stands at some place of the names
 pub record OneOf (x : List ℕ) (xs : List (List ℕ)) : Type 0 where
@@ -53,8 +54,8 @@ pub record WellChosen (ws : List Liked) (c : Context) (a : Answered) : Type 0 wh
   pub no-transfer : a .result ≡ TRANSFER-NOT-SUPPORTED → NoCommon ws c
   pub no-abstract : a .result ≡ ABSTRACT-NOT-SUPPORTED → NotThere ws c
   pub no-other : (a .result ≡ ACCEPTED) ⊎ ((a .result ≡ TRANSFER-NOT-SUPPORTED) ⊎ (a .result ≡ ABSTRACT-NOT-SUPPORTED))
-  -- "Refused contexts carry their first proposed transfer name."
-  pub refused : (a .result ≡ ACCEPTED → ⊥) → a .transfer ≡ firstProposed c
+  -- a refused context carries no transfer name
+  pub refused : (a .result ≡ ACCEPTED → ⊥) → a .transfer ≡ []
 
 -- the three shut each other out
 pub record ShutOut (ws : List Liked) (c : Context) : Type 0 where

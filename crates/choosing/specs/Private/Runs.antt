@@ -6,10 +6,11 @@ use mathlib.Core.List.{List, [], _∷_, map}
 use lib.ListN.{length, take, drop, getD}
 use Rattle.laws.specs.Lists.{any}
 use Rattle.numbers.specs.Lengths.{RECORD}
+use Rattle.numbers.specs.Results.{ACCEPTED, TRANSFER-NOT-SUPPORTED}
 use Rattle.sheets.specs.Contexts.{Context, Answered}
 use Rattle.sheets.specs.Sheet.{recordBytes, transferOf, recordsOf, contextsIn}
 use Rattle.sheets.specs.Record.{abstractAt}
-use Rattle.choosing.specs.Choice.{Liked, ACCEPTED, TRANSFER-NOT-SUPPORTED, sameAbstract, matches}
+use Rattle.choosing.specs.Choice.{Liked, sameAbstract, matches}
 
 -- the context of a run
 unfoldable pub runContext : List ℕ → Context

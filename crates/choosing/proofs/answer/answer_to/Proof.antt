@@ -18,10 +18,12 @@ answer-to-spec =
     (tie.spec
     Inv-loop
     μ-loop
-    (λ c. search look-laws) (λ c κs. search look-laws) (λ c. search look-laws)  -- loop-holds, result-at-requires, shared-slice-read-record-of
-    (λ c. search look-laws) (λ c. search look-laws) (λ c. search look-laws)  -- sub-record-of, part-record-of-start, part-record-of-end
+    (λ c. search look-laws) (λ c κs. search look-laws)  -- loop-holds, result-at-requires
+    (λ c. search look-laws) (λ c. search look-laws)  -- shared-slice-read-record-of, sub-record-of
+    (λ c. search look-laws) (λ c. search look-laws)  -- part-record-of-start, part-record-of-end
     (λ c κs. search look-laws) (λ c κs. search look-laws) (λ c. search look-laws)  -- transfer-at-requires, record-of-requires, returns
     (λ c. search look-laws) (λ c. search look-laws) (λ c. search look-laws)  -- add-at, loop-less, loop-again
     (λ c. search look-laws) (λ c. search look-laws)  -- shared-slice-read-record-of-2, sub-record-of-2
     (λ c. search look-laws) (λ c. search look-laws)  -- part-record-of-start-2, part-record-of-end-2
-    (λ c κs. search look-laws) (λ c κs. search look-laws) (λ c. search look-laws))  -- transfer-at-requires-2, record-of-requires-2, returns-2
+    (λ c. search look-laws) (λ c. search look-laws)  -- sub-record-of-3, part-record-of-start-3
+    (λ c. search look-laws) (λ c κs. search look-laws) (λ c. search look-laws))  -- part-record-of-end-3, record-of-requires-2, returns-2

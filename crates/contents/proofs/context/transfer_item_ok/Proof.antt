@@ -9,5 +9,5 @@ unfolding transferItemOk
 transfer-item-ok-spec =
     tie.close
     (tie.spec
-    (λ c κs. search counting) (λ c. search counting) (λ c κs. search counting)  -- one-of-requires, returns, first-of-requires
-    (λ c κs. search counting) (λ c. search counting))  -- name-ok-requires, returns-2
+    (λ c. search counting) (λ c κs. search counting) (λ c. search counting)  -- returns, one-of-requires, returns-2
+    (λ c κs. search counting) (λ c κs. search counting) (λ c. search counting))  -- first-of-requires, name-ok-requires, returns-3

@@ -7,9 +7,9 @@ pub put-context-spec : {M : Type 1} → statement M
 put-context-spec =
     tie.close
     (tie.spec
-    (λ c κs. search context-laws) (λ c κs. search context-laws)  -- behind-four-requires, byte-at-requires
-    (λ c κs. search context-laws) (λ c κs. search context-laws) (λ c. search context-laws)  -- first-of-requires, put-transfers-requires, same-length
-    (λ c. search context-laws) (λ c κs. search context-laws) (λ c. search context-laws)  -- returns, byte-at-requires-2, sub-put-record
-    (λ c. search context-laws) (λ c. search context-laws)  -- part-put-record-start, part-put-record-end
-    (λ c κs. search context-laws) (λ c κs. search context-laws) (λ c. search context-laws)  -- first-of-requires-2, put-record-requires, same-length-2
-    (λ c. search context-laws))  -- returns-2
+    (λ c κs. search context-laws) (λ c κs. search context-laws)  -- byte-at-requires, behind-four-requires
+    (λ c κs. search context-laws) (λ c κs. search context-laws)  -- first-of-requires, put-transfers-requires
+    (λ c. search context-laws) (λ c. search context-laws) (λ c κs. search context-laws)  -- same-length, returns, byte-at-requires-2
+    (λ c. search context-laws) (λ c. search context-laws)  -- sub-put-record, part-put-record-start
+    (λ c. search context-laws) (λ c κs. search context-laws)  -- part-put-record-end, transfer-in-requires
+    (λ c κs. search context-laws) (λ c. search context-laws) (λ c. search context-laws))  -- put-record-requires, same-length-2, returns-2
