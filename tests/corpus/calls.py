@@ -6,11 +6,12 @@ import os
 import subprocess
 import sys
 
-from choices import RECORD, choices
+from sheets import RECORD, answers_sent, choices, reads
 
 HERE = os.path.dirname(os.path.abspath(__file__))
 KINDS = ["no valid PDU", "RQ", "AC", "RJ", "P-DATA-TF", "RELEASE-RQ", "RELEASE-RP", "ABORT"]
 # the state that waits for a PDU of a type, and its marks: ARTIM, requestor
+ECHOED = bytes(range(64))
 WAITS = {1: "2 0 0 1 0", 2: "5 0 0 0 1", 3: "5 0 0 0 1", 4: "6 0 0 0 0", 5: "6 0 0 0 0", 6: "7 0 0 0 0", 7: "6 0 0 0 0"}
 
 
@@ -68,6 +69,18 @@ def digest(buffer):
     return h
 
 
+def unpacked(text):
+    """the bytes of hex in parts apart by +, each HEX or HEX*TIMES; '-' is none"""
+    parts = (part.partition("*") for part in text.split("+")) if text != "-" else []
+    return b"".join(bytes.fromhex(part) * int(times or 1) for part, _, times in parts)
+
+
+def accept(sheet_items):
+    """The AC that is written for these 21H items, from ECHOED and the application name 1."""
+    body = b"\0\1\0\0" + ECHOED + bytes.fromhex("1000000131") + sheet_items + bytes.fromhex("500000085100000400004000")
+    return b"\2\0" + len(body).to_bytes(4, "big") + body
+
+
 def answers(command, lines):
     run = subprocess.run(command, input="".join(line + "\n" for line in lines).encode(), stdout=subprocess.PIPE, check=True)
     return run.stdout.decode().split("\n")[:-1]
@@ -100,24 +113,36 @@ def main():
         good, name, source = line.rstrip("\n").split(" ", 2)
         calls.append((source, f"N {words(name.encode())}", [good]))
     names = len(calls) - count
+    records = reads()
     for line in open(os.path.join(HERE, "items")):
         good, kind, name, text = line.split()
         code = {"RQ": 1, "AC": 2}[kind]
-        pdu = request(code, bytes.fromhex(text.replace("-", "")))
+        pdu = request(code, unpacked(text))
         calls.append((name, f"K {words(pdu)}", [str(code * int(good))]))
-        calls.append((name, f"{' QA'[code]} {words(pdu)} 66000", ["0" if good == "1" else "7"]))
+        read = ["0" if good == "1" else "7"]
+        if name in records:
+            sheet = records.pop(name)
+            read += ["1", None, None, None, str(len(sheet) // RECORD), str(digest(sheet + b"\xc3" * (66000 - len(sheet))))]
+        calls.append((name, f"{' QA'[code]} {words(pdu)} 66000", read))
+    if records:
+        sys.exit(f"reads: no list of items is named {', '.join(records)}")
     items = (len(calls) - count - names) // 2
     for what, proposal, site, room, refusal, chosen in choices():
         lent = chosen + b"\xc3" * (room - len(chosen))
         calls.append((what, f"C {words(proposal)} {words(site)} {room}", [str(refusal), str(len(chosen) // RECORD), str(digest(lent))]))
     chosen = len(calls) - count - names - 2 * items
+    for what, sheet, refusal, text in answers_sent():
+        sent = accept(unpacked(text)) if refusal == 0 else b""
+        out = sent + b"\x5a" * (16390 - len(sent))
+        calls.append((what, f"2 {words(ECHOED)} 31 {words(sheet)} 16390", [str(refusal), str(len(sent)), str(digest(out))]))
+    written = len(calls) - count - names - 2 * items - chosen
     lines = [call for _, call, _ in calls]
     answered = [answers([second, "answer"], lines), answers(replay, lines)]
     for program, got in zip(["the second program", "replay"], answered):
         if len(got) != len(lines):
             sys.exit(f"{program}: {len(got)} answers to {len(lines)} calls")
-    if not count or not names or not items or not chosen:
-        sys.exit("there is no recorded stream, no name, no list of items or no choice")
+    if not count or not names or not items or not chosen or not written:
+        sys.exit("there is no recorded stream, no name, no list of items, no choice or no answer sheet")
     for (where, call, expected), theirs, ours in zip(calls, *answered):
         if len(ours.split()) < len(expected or []):
             sys.exit(f"{where}: {call[:200]}\n  answer: {ours}\n  expected {len(expected)} words")
@@ -127,7 +152,7 @@ def main():
             if wanted is not None and got != wanted:
                 sys.exit(f"{where}: {call[:200]}\n  answer: {ours}\n  expected: {' '.join(w or '*' for w in expected)}")
     kinds = ", ".join(f"{n} {kind}" for kind, n in seen.items() if n)
-    print(f"{kinds}; {count} calls on them, {names} names, {items} lists of items and {chosen} choices answered alike and as expected")
+    print(f"{kinds}; {count} calls on them, {names} names, {items} lists of items, {chosen} choices and {written} answer sheets answered alike and as expected")
 
 
 main()

@@ -1,8 +1,8 @@
 """Holds the numbers that have a name to one value: as a constant of the code, in the definitions (a dash for each underscore) and in include/feohanna.h (FEO_ before it).
 
-Where a crate has a name in both its code and its definitions, the values are equal; refusals, kinds, lengths, actions and events stand in both. The header's refusals, actions and
+Where a crate has a name in both its code and its definitions, the values are equal; refusals, kinds, lengths, results, actions and events stand in both. The header's refusals, actions and
 events are those of the code, and it has every length of the code but TEN, some with _LEN behind the name; the rooms of its sheets are those that sheet_room proves to be enough, and its results of
-a context (CONTEXT_ before the name) have those that choosing gives.
+a context (CONTEXT_ before the name) have those of the code.
 """
 import glob
 import re
@@ -13,11 +13,12 @@ DEFINED = re.compile(r"^abbrev pub ([A-Z][A-Z0-9-]*|····) : ℕ\n\1 = (0x[0-
 HEADER = "include/feohanna.h"
 LENGTHS = "crates/numbers/src/lengths.rt"
 ROOM = "crates/sheet_room/proofs/Room.antt"
-RESULTS = "crates/choosing/src/answer.rt"
+RESULTS = "crates/numbers/src/results.rt"
 BOTH = [
     ("crates/numbers/src/refusals.rt", "crates/numbers/specs/Refusals.antt"),
     ("crates/numbers/src/kinds.rt", "crates/numbers/specs/Kinds.antt"),
     (LENGTHS, "crates/numbers/specs/Lengths.antt"),
+    (RESULTS, "crates/numbers/specs/Results.antt"),
     ("crates/table/src/actions.rt", "crates/table/specs/ActionNames.antt"),
     ("crates/table/src/events.rt", "crates/table/specs/EventNames.antt"),
 ]
@@ -85,7 +86,7 @@ def main():
         both(*pair)
     results, given = {name.replace("CONTEXT_", "", 1): value for name, value in enum("feo_context_result_number").items()}, named(CONSTANT, [RESULTS])
     same(RESULTS, given, results, f"{HEADER}, feo_context_result_number")
-    wrong.extend(f"{HEADER} has no result {name}, which {RESULTS} gives" for name in sorted(given.keys() - results.keys()))
+    wrong.extend(f"{HEADER} has no result {name}, which {RESULTS} names" for name in sorted(given.keys() - results.keys()))
     for line in wrong:
         print(line)
     if wrong or not compared:

@@ -6,18 +6,18 @@ use mathlib.Core.Path.{_≡_, refl}
 use lib.ListN.{length, replicate}
 use Rattle.laws.specs.Lists.{among, distinct}
 use Rattle.laws.specs.Text.{bytes}
-use Rattle.numbers.specs.Kinds.{ASSOCIATE-RQ, DATA-TF}
+use Rattle.numbers.specs.Kinds.{ASSOCIATE-RQ, ASSOCIATE-AC, DATA-TF}
 use Rattle.octets.specs.Octets.{four, be16, be32}
 use Rattle.names.specs.Name.{nameOk}
 use Rattle.titles.specs.Title.{titleOk}
 use Rattle.items.specs.Items.{step, walkIn, walk, filled, bodies, place, types, only, goodBodies, holds}
 use Rattle.items.specs.Wire.{itemBytes}
-use Rattle.contents.specs.Contents.{subsOk, good20H, one, userGood, good50H, contextGood, topGood, topOk, ids, itemsOk, maximumIn}
+use Rattle.contents.specs.Contents.{subsOk, good20H, one, transferItemOk, good21H, userGood, good50H, contextGood, topGood, topOk, ids, itemsOk, maximumIn}
 use Rattle.pdvs.specs.Data.{pdvStep, pdvsIn, pdvs, pdvOk, pdvsOk}
 use Rattle.reasons.specs.Values.{rejectReasons, rejectOk, abortOk}
-use Rattle.judging.specs.Pdu.{whole, requestOk, rejectPduOk, dataOk, abortPduOk, validAs, kindOf, maximumOf}
-use Rattle.sheets.specs.Sheet.{recordBytes, contextRecords, sheetOf}
-use Rattle.reading.specs.Associate.{contextOf, proposed, applicationOf, applicationAt, sheetIn, associateOf, filling}
+use Rattle.judging.specs.Pdu.{whole, requestOk, acceptOk, rejectPduOk, dataOk, abortPduOk, validAs, kindOf, maximumOf}
+use Rattle.sheets.specs.Sheet.{recordBytes, contextRecords, sheetOf, answerSheetOf}
+use Rattle.reading.specs.Associate.{contextOf, transferIn, answerOf, proposed, answered, applicationOf, applicationAt, sheetIn, associateOf, filling}
 use Rattle.reading.specs.Data.{pdvsOf, pdv, startOf, noData, dataOf, fragmentOf, pdvStands, dataAt, placeAfter}
 use Rattle.reading.specs.Values.{rejectIn, abortIn}
 
@@ -131,3 +131,28 @@ request-filled = refl
 pub request-narrow : associateOf 1 request 263 ≡ record { refusal = 2; version = 0; «application_at» = 0; «application_len» = 0; maximum = 0; records = 0 }
 unfolding request-sheet associateOf
 request-narrow = refl
+
+-- ---- an AC with an accepted context, one that is refused with a name, one with no byte behind its four, and one with a sub-item that passes the end
+abbrev answer-items : List ℕ
+answer-items =
+    itemBytes 0x10 (bytes "1.2.840.10008.3.1.1.1")
+    ++ (itemBytes 0x21 (1 ∷ 0xFF ∷ 0 ∷ 0xFF ∷ itemBytes 0x40 implicit)
+    ++ (itemBytes 0x21 (3 ∷ 0xFF ∷ 3 ∷ 0xFF ∷ itemBytes 0x40 implicit)
+    ++ (itemBytes 0x21 (5 ∷ 0xFF ∷ 1 ∷ 0xFF ∷ [])
+    ++ (itemBytes 0x21 (7 ∷ 0xFF ∷ 4 ∷ 0xFF ∷ 0x40 ∷ 0 ∷ 0xFF ∷ 0xFF ∷ [])
+    ++ itemBytes 0x50 (itemBytes 0x51 (0 ∷ 0 ∷ 0x80 ∷ 0 ∷ []))))))
+
+abbrev accept-body : List ℕ
+accept-body = 0 ∷ 1 ∷ 0 ∷ 0 ∷ (replicate 64 0 ++ answer-items)
+
+abbrev accept : List ℕ
+accept = 2 ∷ 0 ∷ (four (length accept-body) ++ accept-body)
+
+accept-kind : kindOf accept ≡ ASSOCIATE-AC
+unfolding kindOf validAs whole acceptOk one transferItemOk good21H userGood good50H contextGood topGood topOk ids itemsOk step walkIn walk filled bodies types only goodBodies holds itemBytes nameOk be16 be32 among distinct
+accept-kind = refl
+
+-- each refused one with no name
+pub accept-filled : filling 2 accept 528 ≡ recordBytes 1 0 [] implicit ++ (recordBytes 3 3 [] [] ++ (recordBytes 5 1 [] [] ++ recordBytes 7 4 [] []))
+unfolding accept-kind filling sheetIn answered answerOf transferIn answerSheetOf recordBytes
+accept-filled = refl

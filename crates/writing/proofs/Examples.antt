@@ -131,3 +131,8 @@ abort-zero-nine = refl
 pub abort-one : abortForm (abortOf 1 0) .good ≡ false
 unfolding abortForm abortGood abortOk
 abort-one = refl
+
+-- a refused context, as the AC has it: with an empty sub-item
+pub refused-body : itemBytes 0x21 (answerBody (record { id = 3; result = 4; transfer = [] })) ≡ 0x21 ∷ 0 ∷ 0 ∷ 8 ∷ 3 ∷ 0 ∷ 4 ∷ 0 ∷ 0x40 ∷ 0 ∷ 0 ∷ 0 ∷ []
+unfolding answerBody itemBytes
+refused-body = refl

@@ -1,4 +1,4 @@
-"""Reads the file choices beside it: proposals and sites' sheets, with the answers that are to be chosen. Its first lines say its form."""
+"""Reads the files of sheets beside it, choices, reads and answers. The first lines of each say its form."""
 import os
 
 HERE = os.path.dirname(os.path.abspath(__file__))
@@ -34,11 +34,29 @@ def sheet(text):
     return bytes(whole)
 
 
+def answered(text):
+    """the records of ID RESULT TRANSFER ; .."""
+    return b"".join(record(i, r, b"", name(x)) for i, r, x in (answer.split() for answer in text.split(" ; ")))
+
+
+def lines(path):
+    for line in open(os.path.join(HERE, path)):
+        if not line.startswith("#"):
+            yield line.rstrip("\n").split(" | ")
+
+
 def choices():
     """(name, proposal, site, room, refusal, answers) of each line, the answers as the records that are written."""
-    for line in open(os.path.join(HERE, "choices")):
-        if line.startswith("#"):
-            continue
-        what, proposal, site, room, refusal, answers = line.rstrip("\n").split(" | ")
-        chosen = [answer.split() for answer in answers.split(" ; ")] if answers != "-" else []
-        yield what, sheet(proposal), sheet(site), int(room), int(refusal), b"".join(record(i, r, b"", name(x)) for i, r, x in chosen)
+    for what, proposal, site, room, refusal, answers in lines("choices"):
+        yield what, sheet(proposal), sheet(site), int(room), int(refusal), answered(answers) if answers != "-" else b""
+
+
+def reads():
+    """name -> the records that reading gives"""
+    return {what: answered(text) for what, text in lines("reads")}
+
+
+def answers_sent():
+    """(name, sheet, refusal, items) of each answer sheet"""
+    for what, text, refusal, items in lines("answers"):
+        yield what, sheet(text), int(refusal), items
