@@ -41,7 +41,7 @@ ourUser = itemBytes 0x51 (four LONGEST) ∷ []
 unfoldable pub contextBody : Context → List ℕ
 contextBody c = c .id ∷ 0 ∷ 0 ∷ 0 ∷ (itemBytes 0x30 (c .abstr) ++ itemsBytes 0x40 (c .transfers))
 
--- 21H: ID, reserved, result, reserved, the 40H
+-- 21H: ID, reserved, result, reserved, the 40H, which of a refused context is empty
 unfoldable pub answerBody : Answered → List ℕ
 answerBody c = c .id ∷ 0 ∷ c .result ∷ 0 ∷ itemBytes 0x40 (c .transfer)
 
