@@ -10,8 +10,9 @@ from sheets import RECORD, answers_sent, choices, reads
 
 HERE = os.path.dirname(os.path.abspath(__file__))
 KINDS = ["no valid PDU", "RQ", "AC", "RJ", "P-DATA-TF", "RELEASE-RQ", "RELEASE-RP", "ABORT"]
-# the state that waits for a PDU of a type, and its marks: ARTIM, requestor
+# what an AC that is written echoes
 ECHOED = bytes(range(64))
+# the state that waits for a PDU of a type, and its marks: ARTIM, requestor
 WAITS = {1: "2 0 0 1 0", 2: "5 0 0 0 1", 3: "5 0 0 0 1", 4: "6 0 0 0 0", 5: "6 0 0 0 0", 6: "7 0 0 0 0", 7: "6 0 0 0 0"}
 
 

@@ -100,7 +100,7 @@ bad-answers =
     ∷ (named 0x10 ++ (answer (named 0x40 ++ named 0x40) ++ user))
     -- accepted, with an empty name
     ∷ (named 0x10 ++ (answer (itemBytes 0x40 []) ++ user))
-    -- refused: result 5; an even ID; three bytes; an ID that came before; one that passes the end by a byte
+    -- refused: result 5; an even ID; three bytes; an ID that came before; one that passes the end by a byte, so that no 50H is left
     ∷ (named 0x10 ++ (answerWith 1 5 (named 0x40) ++ user))
     ∷ (named 0x10 ++ (answerWith 2 4 (named 0x40) ++ user))
     ∷ (named 0x10 ++ (itemBytes 0x21 (1 ∷ 0 ∷ 4 ∷ []) ++ user))

@@ -30,7 +30,7 @@ pub record Around : Type 0 where
 abbrev pub bodyWith : Around → List ℕ → List ℕ
 bodyWith p x = p .id ∷ p .id-reserved ∷ p .result ∷ p .result-reserved ∷ x
 
--- "lengths set to suit": the 21H, and what the PDU-length counts
+-- the 21H and what the PDU-length counts, each length set to suit
 abbrev pub itemWith : Around → List ℕ → List ℕ
 itemWith p x = 0x21 ∷ p .item-reserved ∷ (two (length (bodyWith p x)) ++ bodyWith p x)
 
@@ -53,6 +53,7 @@ Taken p x = length (countedWith p x) ≤ LONGEST
 -- two PDUs are judged alike, and read alike as an AC, whatever the room: the place of the application name too, since it stands before all contexts
 pub record Alike (pdu pdu′ : List ℕ) : Type 0 where
   pub kind : kindOf pdu ≡ kindOf pdu′
+  -- what the machine asks of an RQ: of an AC never
   pub acceptable : acceptableOf pdu ≡ acceptableOf pdu′
   pub maximum : maximumOf pdu ≡ maximumOf pdu′
   pub name : applicationOf pdu ≡ applicationOf pdu′
