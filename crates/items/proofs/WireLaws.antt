@@ -12,29 +12,30 @@ use borrow.Author.Tests.{le-leb, eq-eqb}
 use Rattle.laws.specs.Lists.{all, among, sameBytes}
 use Rattle.laws.proofs.Booleans.{holds as is-true, left-of, right-of, both-of}
 use Rattle.laws.proofs.Same.{same-self}
-use Rattle.octets.specs.Octets.{be16}
+use Rattle.octets.specs.Octets.{be16, two}
 use Rattle.items.specs.Items.{Walk, done, item, step, walk, filled, bodies, types, only, goodBodies, holds}
 use Rattle.items.specs.Wire.{itemBytes, itemsBytes}
 use Rattle.items.proofs.WalkLaws.{walk-step, walk-nil}
 use Rattle.items.proofs.HoldLaws.{goods-more}
 
 -- ---- one item
-size : (t : ℕ) (b rest : List ℕ) → be16 (itemBytes t b ++ rest) 2 ≡ length b
-unfolding itemBytes be16
-size t b rest = omega arith
-
 pub item-length : (t : ℕ) (b : List ℕ) → length (itemBytes t b) ≡ 4 + length b
 unfolding itemBytes
 item-length t b = omega arith
 
+-- whatever its reserved byte
+pub walk-any : (t q : ℕ) (b rest : List ℕ) → length b < 65536 → walk ((t ∷ q ∷ (two (length b) ++ b)) ++ rest) ≡ item t b (walk rest)
+unfolding step be16
+walk-any t q b rest h =
+    let n = length-append b rest in
+    let s : be16 (t ∷ q ∷ (two (length b) ++ (b ++ rest))) 2 ≡ length b = omega arith in
+    let l : leb (4 + length b) (length (t ∷ q ∷ (two (length b) ++ (b ++ rest)))) ≡ true = le-leb (4 + length b) (length (t ∷ q ∷ (two (length b) ++ (b ++ rest)))) (omega arith) in
+    let d : drop (4 + length b) (t ∷ q ∷ (two (length b) ++ (b ++ rest))) ≡ rest = drop-at (t ∷ q ∷ (two (length b) ++ b)) rest (4 + length b) (omega arith) in
+    walk-step (t ∷ q ∷ (two (length b) ++ (b ++ rest))) ∙ rw (s, l, take-at b rest (length b) refl, d)
+
 pub walk-item : (t : ℕ) (b rest : List ℕ) → length b < 65536 → walk (itemBytes t b ++ rest) ≡ item t b (walk rest)
-unfolding itemBytes step
-walk-item t b rest h =
-    let n = length-append (itemBytes t b) rest in
-    let m = item-length t b in
-    let l : leb (4 + length b) (length (itemBytes t b ++ rest)) ≡ true = le-leb (4 + length b) (length (itemBytes t b ++ rest)) (omega arith) in
-    let d : drop (4 + length b) (itemBytes t b ++ rest) ≡ rest = drop-at (itemBytes t b) rest (4 + length b) m in
-    walk-step (itemBytes t b ++ rest) ∙ rw (size t b rest, l, take-at b rest (length b) refl, d)
+unfolding itemBytes
+walk-item t b rest h = walk-any t 0 b rest h
 
 -- and nothing behind it
 pub walk-last : (t : ℕ) (b : List ℕ) → length b < 65536 → walk (itemBytes t b) ≡ item t b done

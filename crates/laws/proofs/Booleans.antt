@@ -1,8 +1,10 @@
--- What a conjunction that holds tells of its parts.
+-- What a conjunction that holds tells of its parts, and one over a list of what is made of its elements.
 -- Assumes nothing.
 use mathlib.Core.Path.{_≡_, refl}
 use mathlib.Core.Bool.{Bool, true, false, _&&_}
+use mathlib.Core.List.{List, [], _∷_, map}
 use lib.Dec.{T}
+use Rattle.laws.specs.Lists.{all}
 
 -- a test that holds, as an equation and back
 pub holds : (b : Bool) → T b → b ≡ true
@@ -34,3 +36,7 @@ T-right false b t = absurd t
 pub T-both : (a b : Bool) → T a → T b → T (a && b)
 T-both true b t u = u
 T-both false b t u = absurd t
+
+pub all-mapped : {A B : Type 0} (p : A → Bool) (q : B → Bool) (f : A → B) → ((x : A) → p x ≡ true → q (f x) ≡ true) → (xs : List A) → all p xs ≡ true → all q (map f xs) ≡ true
+all-mapped p q f h [] g = refl
+all-mapped p q f h (x ∷ xs) g = both-of _ _ (h x (left-of _ _ g)) (all-mapped p q f h xs (right-of (p x) _ g))

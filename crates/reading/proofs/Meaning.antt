@@ -10,7 +10,7 @@ use lib.Seq.{drop-drop}
 use lib.Dec.{leb, eqb}
 use borrow.Author.Tests.{le-leb, ne-eqb, eqb-true}
 use Rattle.laws.specs.Lists.{all, distinct}
-use Rattle.laws.proofs.Booleans.{left-of, right-of, both-of}
+use Rattle.laws.proofs.Booleans.{both-of, all-mapped}
 use Rattle.numbers.specs.Kinds.{ASSOCIATE-RQ, ASSOCIATE-AC}
 use Rattle.numbers.specs.Lengths.{RECORD}
 use Rattle.octets.specs.Put.{front}
@@ -39,10 +39,6 @@ answer-good b g = both-of _ _ (odd-21 b g) (both-of _ _ (le-leb (getD b 2 0) 4 (
 -- of either, with k for the item type: what is read from good bodies is good, with their IDs
 module _ {C : Type 0} (k : ℕ) (read : List ℕ → C) (good : List ℕ → Bool) (ok : C → Bool) (id : C → ℕ)
     (reads-good : (b : List ℕ) → good b ≡ true → ok (read b) ≡ true) (reads-id : (b : List ℕ) → id (read b) ≡ bodyId b) where
-  all-good : (bs : List (List ℕ)) → all good bs ≡ true → all ok (map read bs) ≡ true
-  all-good [] g = refl
-  all-good (b ∷ bs) g = both-of _ _ (reads-good b (left-of _ _ g)) (all-good bs (right-of (good b) _ g))
-
   all-ids : (bs : List (List ℕ)) → map id (map read bs) ≡ map bodyId bs
   all-ids [] = refl
   all-ids (b ∷ bs) = rw (reads-id b, all-ids bs)
@@ -51,7 +47,7 @@ module _ {C : Type 0} (k : ℕ) (read : List ℕ → C) (good : List ℕ → Boo
       → (leb 1 (length (map read (bodies k (walk s)))) && (all ok (map read (bodies k (walk s))) && distinct (map id (map read (bodies k (walk s)))))) ≡ true
   unfolding ids
   listed-good s g q =
-      both-of _ _ (ap (leb 1) (length-map (bodies k (walk s)) read) ∙ items-some k s g) (both-of _ _ (all-good (bodies k (walk s)) q) (ap distinct (all-ids (bodies k (walk s))) ∙ items-distinct k s g))
+      both-of _ _ (ap (leb 1) (length-map (bodies k (walk s)) read) ∙ items-some k s g) (both-of _ _ (all-mapped good ok read reads-good (bodies k (walk s)) q) (ap distinct (all-ids (bodies k (walk s))) ∙ items-distinct k s g))
 
 -- the filled sheet is a good proposal of just these contexts
 module _ (x : List ℕ) (v : kindOf x ≡ ASSOCIATE-RQ) where

@@ -1,16 +1,16 @@
 -- The bytes of items behind those of others that fill their holder: the items of both.
 -- Assumes nothing.
-use Prim.Native.Nat.{ℕ, zero, suc, _+_, _≤_, _<_}
+use Prim.Native.Nat.{ℕ, zero, suc, _+_, _≤_}
 use native.Mathlib.Omega.{arith}
 use mathlib.Core.Bool.{Bool, true, false, cond}
 use mathlib.Core.List.{List, [], _∷_, _++_}
 use mathlib.Core.Path.{_≡_, refl, ap, _∙_}
 use lib.ListN.{length, take, drop, length-append, length-drop, List·getD-append}
-use lib.Seq.{take-at, drop-at, take-append-le, drop-append-le}
+use lib.Seq.{take-append-le, drop-append-le}
 use lib.Dec.{leb, eqb}
 use borrow.Author.Tests.{leb-true, le-leb}
 use Rattle.laws.proofs.Booleans.{held}
-use Rattle.octets.specs.Octets.{be16, two}
+use Rattle.octets.specs.Octets.{be16}
 use Rattle.items.specs.Items.{Walk, done, broken, item, step, walk, filled, bodies, types}
 use Rattle.items.proofs.WalkLaws.{walk-step, walk-nil}
 
@@ -60,16 +60,6 @@ walk-front (suc n) s r h f = go s h f (λ t. walk-front n t r)
 
 pub walk-join : (s r : List ℕ) → filled (walk s) ≡ true → walk (s ++ r) ≡ join (walk s) (walk r)
 walk-join s r f = walk-front (length s) s r (omega arith) f
-
--- one item in front, whatever its reserved byte
-pub walk-first : (t q : ℕ) (b r : List ℕ) → length b < 65536 → walk ((t ∷ q ∷ (two (length b) ++ b)) ++ r) ≡ item t b (walk r)
-unfolding step be16
-walk-first t q b r h =
-    let n = length-append b r in
-    let s : be16 (t ∷ q ∷ (two (length b) ++ (b ++ r))) 2 ≡ length b = omega arith in
-    let m : leb (4 + length b) (length (t ∷ q ∷ (two (length b) ++ (b ++ r)))) ≡ true = le-leb (4 + length b) (length (t ∷ q ∷ (two (length b) ++ (b ++ r)))) (omega arith) in
-    let d : drop (4 + length b) (t ∷ q ∷ (two (length b) ++ (b ++ r))) ≡ r = drop-at (t ∷ q ∷ (two (length b) ++ b)) r (4 + length b) (omega arith) in
-    walk-step (t ∷ q ∷ (two (length b) ++ (b ++ r))) ∙ rw (s, m, take-at b r (length b) refl, d)
 
 -- ---- what they have
 module _ (v : Walk) where

@@ -17,6 +17,7 @@ use Rattle.octets.specs.Octets.{be16, be32, odd}
 use Rattle.octets.specs.Put.{front}
 use Rattle.items.specs.Items.{Walk, done, broken, item, walk, filled, bodies, first, place, types, only, goodBodies, holds}
 use Rattle.items.proofs.HoldLaws.{held-order}
+use Rattle.items.proofs.WireLaws.{walk-any}
 use Rattle.contents.specs.Contents.{topKnown, topGood, contextGood, topOk, transferItemOk, good21H, bodyId, ids, itemsOk, maximumIn}
 use Rattle.contents.proofs.Meaning.{top-holds}
 use Rattle.contents.proofs.GoodLaws.{items-top}
@@ -26,7 +27,7 @@ use Rattle.sheets.specs.Sheet.{answerSheetOf}
 use Rattle.reading.specs.Associate.{transferIn, answerOf, answered, applicationOf, applicationAt, sheetIn, fieldsOf, associateRefusal, associateOf, filling, Read}
 use Rattle.reading.specs.declared.associate.Associate.{Associate}
 use Rattle.refused_contexts.specs.Untested.{Around, bodyWith, itemWith, countedWith, acWith, Refused, Taken, Alike}
-use Rattle.refused_contexts.proofs.Joined.{join, walk-join, walk-first, join-filled, join-types, join-bodies}
+use Rattle.refused_contexts.proofs.Joined.{join, walk-join, join-filled, join-types, join-bodies}
 
 -- ---- lists that differ in one element alone
 map-one : {B : Type 0} (f : List ℕ → B) (xs ys : List (List ℕ)) (b c : List ℕ) → f b ≡ f c → map f (xs ++ (b ∷ ys)) ≡ map f (xs ++ (c ∷ ys))
@@ -143,7 +144,7 @@ module _ (p : Around) (r : Refused p) (x : List ℕ) (h : Taken p x) where
   walked : walk (topItems pdu) ≡ join (walk (p .before)) (item 0x21 (bodyWith p x) (walk (p .after)))
   walked =
       let l = counted-long in
-      ap walk items-are ∙ (walk-join (p .before) (itemWith p x ++ p .after) (r .whole-items) ∙ ap (join (walk (p .before))) (walk-first 0x21 (p .item-reserved) (bodyWith p x) (p .after) (omega arith)))
+      ap walk items-are ∙ (walk-join (p .before) (itemWith p x ++ p .after) (r .whole-items) ∙ ap (join (walk (p .before))) (walk-any 0x21 (p .item-reserved) (bodyWith p x) (p .after) (omega arith)))
 
   type-is : getD pdu 0 0 ≡ ASSOCIATE-AC
   unfolding acWith

@@ -18,6 +18,7 @@ use Rattle.items.specs.Wire.{itemBytes, itemsBytes}
 use Rattle.items.proofs.WireLaws.{item-length, walk-item, walk-last, run, walk-items, bodies-run, bodies-past, written}
 use Rattle.contents.specs.Contents.{topKnown, one, userGood, good50H, contextGood, topGood, topOrder, topOk, bodyId, ids, itemsOk, maximumIn}
 use Rattle.judging.specs.Pdu.{typeOf, pduLength, versionOf, topItems, whole}
+use Rattle.judging.proofs.KindLaws.{whole-of}
 use Rattle.writing.specs.Wire.{pduBytes, AssociatePdu, associateItems, associateBytes, ourUser}
 
 -- ---- a PDU with its PDU-length: at most 16,384, it is whole
@@ -31,11 +32,10 @@ module _ (kind : ℕ) (body : List ℕ) where
   pdu-number = omega arith
 
   pub pdu-whole : length body ≤ 16384 → whole (pduBytes kind body) ≡ true
-  unfolding whole
   pdu-whole h =
       let l = pdu-long in
       let n = pdu-number in
-      both-of _ _ (eq-eqb (length (pduBytes kind body)) (6 + pduLength (pduBytes kind body)) (omega arith)) (le-leb (pduLength (pduBytes kind body)) 16384 (omega arith))
+      whole-of (pduBytes kind body) (omega arith) (omega arith)
 
 -- the user information that we send
 user-good : good50H (joined ourUser) ≡ true

@@ -2,14 +2,14 @@
 -- Assumes nothing.
 use Prim.Native.Nat.{ℕ, zero, suc, _+_, _*_, _%_, _≤_, _<_}
 use native.Mathlib.Omega.{arith}
-use mathlib.Core.Bool.{Bool, true, false, not, _||_, cond}
-use mathlib.Core.List.{List, [], _∷_}
+use mathlib.Core.Bool.{Bool, true, false, not, _&&_, _||_, cond}
+use mathlib.Core.List.{List, [], _∷_, map}
 use mathlib.Core.Path.{_≡_, refl, sym, _∙_}
-use lib.ListN.{length}
-use lib.Dec.{ltb, eqb}
+use lib.ListN.{length, length-map}
+use lib.Dec.{leb, ltb, eqb}
 use borrow.Author.Tests.{eqb-true, eqb-false, ne-eqb, not-true, ltb-true}
 use Rattle.laws.specs.Lists.{all, among, distinct}
-use Rattle.laws.proofs.Booleans.{held, left-of, right-of, both-of}
+use Rattle.laws.proofs.Booleans.{held, left-of, right-of, both-of, all-mapped}
 use Rattle.octets.specs.Octets.{odd}
 
 -- ---- the numbers without the first that is x
@@ -80,3 +80,12 @@ odds-most n xs d o h = let l = no-more xs (odds n) d (chosen xs o h) in let c = 
     chosen : (xs : List ℕ) → all odd xs ≡ true → all (λ x. ltb x (2 * n)) xs ≡ true → all (λ z. among z (odds n)) xs ≡ true
     chosen [] o h = refl
     chosen (x ∷ xs) o h = both-of _ _ (odds-all n x (left-of _ _ o) (ltb-true _ _ (left-of _ _ h))) (chosen xs (right-of (odd x) _ o) (right-of (ltb x (2 * n)) _ h))
+
+-- contexts or answers, each good and with an odd ID that is a byte, no ID twice: at most 128
+pub ids-most : {C : Type 0} (ok : C → Bool) (id : C → ℕ) → ((c : C) → ok c ≡ true → odd (id c) ≡ true) → (cs : List C) → (leb 1 (length cs) && (all ok cs && distinct (map id cs))) ≡ true
+    → all (λ x. ltb x 256) (map id cs) ≡ true → length cs ≤ 128
+ids-most ok id o cs g b =
+    let r : (all ok cs && distinct (map id cs)) ≡ true = right-of (leb 1 (length cs)) _ g in
+    let n = odds-most 128 (map id cs) (right-of (all ok cs) _ r) (all-mapped ok odd id o cs (left-of _ _ r)) b in
+    let l = length-map cs id in
+    omega arith

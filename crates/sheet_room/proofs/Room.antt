@@ -4,13 +4,13 @@ use Prim.Native.Nat.{ℕ, zero, suc, _+_, _*_, _/_, _≤_, _<_}
 use native.Mathlib.Omega.{arith}
 use mathlib.Core.Bool.{Bool, true, false, not, _&&_, cond}
 use mathlib.Core.List.{List, [], _∷_, map}
-use mathlib.Core.Path.{_≡_, refl, sym, _∙_}
-use lib.ListN.{length, take, drop, getD, length-append, length-drop, length-map}
+use mathlib.Core.Path.{_≡_, refl, sym, ap, _∙_}
+use lib.ListN.{length, take, drop, getD, length-append, length-drop}
 use lib.Seq.{getD-take, getD-drop}
 use lib.Dec.{leb, ltb, eqb}
 use borrow.Author.Tests.{leb-true, le-ltb, lt-ltb, eqb-true}
 use Rattle.laws.specs.Lists.{all, records, among, distinct}
-use Rattle.laws.proofs.Booleans.{left-of, right-of, both-of}
+use Rattle.laws.proofs.Booleans.{left-of, right-of, both-of, all-mapped}
 use Rattle.numbers.specs.Refusals.{NOT-REFUSED, SHORT-OUTPUT, NO-SUCH-PDU}
 use Rattle.numbers.specs.Lengths.{RECORD}
 use Rattle.numbers.specs.Kinds.{ASSOCIATE-RQ, ASSOCIATE-AC}
@@ -19,20 +19,19 @@ use Rattle.names.specs.Name.{nameOk}
 use Rattle.names.proofs.NameLaws.{name-short}
 use Rattle.items.specs.Items.{Walk, walk, bodies, first}
 use Rattle.items.proofs.HoldLaws.{first-good}
-use Rattle.contents.specs.Contents.{bodyId, ids, good20H, good21H, good50H, topGood}
-use Rattle.contents.proofs.GoodLaws.{four-20, filled-20, abstract-names, transfer-names, counts-20, abstract-name, odd-21, one-50, one-filled, one-count, maximum-four, items-filled, items-good, items-counts, items-distinct, items-20, items-21}
+use Rattle.contents.specs.Contents.{bodyId, good20H, good50H, topGood}
+use Rattle.contents.proofs.GoodLaws.{four-20, filled-20, abstract-names, transfer-names, counts-20, abstract-name, one-50, one-filled, one-count, maximum-four, items-filled, items-good, items-counts, items-20}
 use Rattle.judging.specs.Pdu.{kindOf}
-use Rattle.judging.proofs.KindLaws.{whole-length, whole-limit, kind-whole, request-items, accept-items}
+use Rattle.judging.proofs.KindLaws.{whole-length, whole-limit, kind-whole, request-items}
 use Rattle.sheets.specs.Contexts.{Answered, answeredId, answeredOk, allAnsweredOk}
-use Rattle.sheets.specs.Sheet.{contextRecords, sheetOf, answerSheetOf, recordsOf, recordId, answeredOf, answersIn, answersOk}
+use Rattle.sheets.specs.Sheet.{contextRecords, sheetOf, recordsOf, recordId, answeredOf, answersIn, answersOk}
 use Rattle.sheets.proofs.RecordLaws.{record-length}
-use Rattle.sheets.proofs.Inverse.{answers-answered}
-use Rattle.reading.specs.Associate.{contextOf, transferIn, answerOf, proposed, answered, sheetIn, associateRefusal, Read}
+use Rattle.sheets.proofs.Inverse.{answers-answered, answers-length}
+use Rattle.reading.specs.Associate.{contextOf, answerOf, proposed, answered, sheetIn, associateRefusal, Read}
 use Rattle.reading.specs.declared.associate.Associate.{Associate}
-use Rattle.reading.proofs.ReadLaws.{transfer-short}
-use Rattle.reading.proofs.Meaning.{refusal-is, request-records}
+use Rattle.reading.proofs.Meaning.{refusal-is, request-records, accept-sheet-good, accept-sheet-back}
 use Rattle.sheet_room.proofs.Sizes.{sizes, sizesOf, sizes-most, by-items, size-filled}
-use Rattle.sheet_room.proofs.Distinct.{odds-most}
+use Rattle.sheet_room.proofs.Distinct.{ids-most}
 
 -- ---- the bytes that items take: of names, five or more each
 name-some : (s : List ℕ) → nameOk s ≡ true → 1 ≤ length s
@@ -96,19 +95,15 @@ proposed-size (b ∷ bs) g =
     let r = proposed-size bs (right-of (good20H b) _ g) in
     simp length-append (omega arith)
 
--- ---- an answer: 132 bytes for each 21H
-answered-size : (bs : List (List ℕ)) → all good21H bs ≡ true → length (answerSheetOf (map answerOf bs)) ≡ 132 * length bs
-unfolding answerSheetOf answerOf
-answered-size [] g = refl
-answered-size (b ∷ bs) g =
-    let z : length {A = ℕ} [] ≤ 64 = omega arith in
-    let l = record-length (getD b 0 0) (getD b 2 0) [] (transferIn b) z (transfer-short b (left-of _ _ g)) in
-    let r = answered-size bs (right-of (good21H b) _ g) in
-    simp length-append (omega arith)
+-- ---- an answer
+answered-odd : (c : Answered) → answeredOk c ≡ true → odd (answeredId c) ≡ true
+unfolding answeredOk
+answered-odd c g = left-of _ _ g
 
-ids-odd : (bs : List (List ℕ)) → all good21H bs ≡ true → all odd (map bodyId bs) ≡ true
-ids-odd [] g = refl
-ids-odd (b ∷ bs) g = both-of _ _ (odd-21 b (left-of _ _ g)) (ids-odd bs (right-of (good21H b) _ g))
+answered-ids : (bs : List (List ℕ)) → map answeredId (map answerOf bs) ≡ map bodyId bs
+unfolding answerOf
+answered-ids [] = refl
+answered-ids (b ∷ bs) = ap (λ (l : List ℕ). bodyId b ∷ l) (answered-ids bs)
 
 -- an ID is one of the bytes
 first-byte : (n : ℕ) (s : List ℕ) → ((i : ℕ) → getD s i 0 < 256) → getD (take n (drop 4 s)) 0 0 < 256
@@ -138,24 +133,15 @@ unfolding recordsOf
 records-bytes s b = cut-bytes (length s / RECORD) s b
 
 -- ---- a good answer sheet has at most 128 records, one for each odd number that a byte can be
-answers-odd : (cs : List Answered) → all answeredOk cs ≡ true → all odd (map answeredId cs) ≡ true
-unfolding answeredOk
-answers-odd [] g = refl
-answers-odd (c ∷ cs) g = both-of (odd (c .id)) _ (left-of (odd (c .id)) _ (left-of _ _ g)) (answers-odd cs (right-of (answeredOk c) _ g))
-
 answers-bytes : (rs : List (List ℕ)) → all (λ r. ltb (recordId r) 256) rs ≡ true → all (λ x. ltb x 256) (map answeredId (map answeredOf rs)) ≡ true
 unfolding answeredOf
-answers-bytes [] g = refl
-answers-bytes (r ∷ rs) g = both-of (ltb (recordId r) 256) _ (left-of (ltb (recordId r) 256) _ g) (answers-bytes rs (right-of (ltb (recordId r) 256) _ g))
+answers-bytes rs g =
+    all-mapped (λ c. ltb (answeredId c) 256) (λ x. ltb x 256) answeredId (λ c e. e) (map answeredOf rs)
+    (all-mapped (λ r. ltb (recordId r) 256) (λ c. ltb (answeredId c) 256) answeredOf (λ r e. e) rs g)
 
 pub answers-most : (s : List ℕ) → ((i : ℕ) → getD s i 0 < 256) → answersOk s ≡ true → length (answersIn s) ≤ 128
 unfolding allAnsweredOk answersIn
-answers-most s b g =
-    let k : (leb 1 (length (answersIn s)) && (all answeredOk (answersIn s) && distinct (map answeredId (answersIn s)))) ≡ true = answers-answered s g in
-    let r : (all answeredOk (answersIn s) && distinct (map answeredId (answersIn s))) ≡ true = right-of (leb 1 (length (answersIn s))) _ k in
-    let n = odds-most 128 (map answeredId (answersIn s)) (right-of (all answeredOk (answersIn s)) _ r) (answers-odd (answersIn s) (left-of _ _ r)) (answers-bytes (recordsOf s) (records-bytes s b)) in
-    let l = length-map (answersIn s) answeredId in
-    omega arith
+answers-most s b g = ids-most answeredOk answeredId answered-odd (answersIn s) (answers-answered s g) (answers-bytes (recordsOf s) (records-bytes s b))
 
 -- ---- the most that a valid PDU can fill
 -- an RQ: PDU-length 16,384, of which 68 are fixed, 5 for a 10H, 12 for a 50H, 13 for a 20H and 5 for each of its 40H
@@ -182,14 +168,14 @@ proposal-most x v =
 
 -- an AC: the 128 odd numbers that a byte can be. The PDU is a list of bytes, that is, of numbers below 256
 pub answer-most : (x : List ℕ) → ((i : ℕ) → getD x i 0 < 256) → kindOf x ≡ ASSOCIATE-AC → length (sheetIn ASSOCIATE-AC x) ≤ 132 * 128
-unfolding sheetIn answered ids
+unfolding answered allAnsweredOk
 answer-most x b v =
-    let s : List ℕ = drop 74 x in
-    let g = accept-items x v in
-    let n = odds-most 128 (map bodyId (bodies 0x21 (walk s))) (items-distinct 0x21 s g) (ids-odd (bodies 0x21 (walk s)) (items-21 s g))
-    (ids-bytes 0x21 s (λ i. rw (getD-drop 74 x i 0) (b (74 + i)))) in
-    let l = length-map (bodies 0x21 (walk s)) bodyId in
-    let z = answered-size (bodies 0x21 (walk s)) (items-21 s g) in
+    let e = accept-sheet-back x v in
+    let g = ap allAnsweredOk (sym e) ∙ answers-answered (sheetIn ASSOCIATE-AC x) (accept-sheet-good x v) in
+    let y = ap (all (λ n. ltb n 256)) (answered-ids (bodies 0x21 (walk (drop 74 x)))) ∙ ids-bytes 0x21 (drop 74 x) (λ i. rw (getD-drop 74 x i 0) (b (74 + i))) in
+    let n = ids-most answeredOk answeredId answered-odd (answered x) g y in
+    let l = answers-length (sheetIn ASSOCIATE-AC x) (accept-sheet-good x v) in
+    let m = ap length e in
     omega arith
 
 -- ---- so a sheet with that room is never too short

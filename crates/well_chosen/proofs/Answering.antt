@@ -3,14 +3,14 @@
 use Prim.Native.Nat.{ℕ, zero, suc, _+_, _*_, _/_, _≤_, _<_}
 use native.Mathlib.Omega.{arith}
 use native.Mathlib.Decide.{decLt}
-use mathlib.Core.Bool.{Bool, true, false, not, _&&_, cond}
+use mathlib.Core.Bool.{Bool, true, false, not, cond}
 use mathlib.Core.List.{List, [], _∷_, _++_, map}
 use mathlib.Core.Path.{_≡_, refl, sym, ap, _∙_}
-use lib.ListN.{length, take, drop, getD, replicate, length-append, length-take, length-drop, length-map, List·getD-eq-default}
+use lib.ListN.{length, take, drop, getD, replicate, length-append, length-take, length-drop, List·getD-eq-default}
 use lib.Seq.{length-take-le, getD-take}
-use lib.Dec.{leb, ltb, eqb}
+use lib.Dec.{ltb, eqb}
 use borrow.Author.Tests.{eqb-true, eqb-false, eq-eqb, le-ltb, not-false}
-use Rattle.laws.specs.Lists.{all, records, distinct}
+use Rattle.laws.specs.Lists.{all, records}
 use Rattle.laws.proofs.Booleans.{left-of, right-of, both-of}
 use Rattle.laws.proofs.Refusals.{not-due}
 use Rattle.numbers.specs.Kinds.{ASSOCIATE-RQ}
@@ -36,7 +36,7 @@ use Rattle.writing.specs.Fields.{AcFields, rqGood, acGood}
 use Rattle.writing.specs.Wire.{contextBody, answerBody, rqPdu, acPdu}
 use Rattle.writing.specs.Form.{rqForm, acForm, formRefusal}
 use Rattle.writing.proofs.FormLaws.{refusal-0}
-use Rattle.sheet_room.proofs.Distinct.{odds-most}
+use Rattle.sheet_room.proofs.Distinct.{ids-most}
 use Rattle.sheet_room.proofs.Room.{records-bytes}
 use Rattle.round_trips.specs.Trips.{rqRead}
 use Rattle.round_trips.proofs.PduTrip.{associate-long}
@@ -80,10 +80,9 @@ answers-shorter ws (c ∷ cs) =
     simp (length-append, item-length) (omega arith)
 
 -- ---- a good proposal has at most 128 contexts: its IDs are odd bytes, and none comes twice
-contexts-odd : (cs : List Context) → all contextOk cs ≡ true → all odd (map contextId cs) ≡ true
+context-odd : (c : Context) → contextOk c ≡ true → odd (contextId c) ≡ true
 unfolding contextOk
-contexts-odd [] g = refl
-contexts-odd (c ∷ cs) g = both-of (odd (c .id)) _ (left-of (odd (c .id)) _ (left-of _ _ g)) (contexts-odd cs (right-of (contextOk c) _ g))
+context-odd c g = left-of _ _ g
 
 abbrev byte? : ℕ → Bool
 byte? x = ltb x 256
@@ -99,13 +98,8 @@ runs-bytes (r ∷ rs) g = both-of (byte? (recordId r)) _ (left-of (byte? (record
     go (c ∷ cs) true h = right-of (byte? (c .id)) _ h
 
 pub contexts-most : (s : List ℕ) → Bytes s → proposalOk s ≡ true → length (contextsIn s) ≤ 128
-unfolding contextsOk contextsIn recordsOf
-contexts-most s b g =
-    let k = proposal-contexts s g in
-    let r : (all contextOk (contextsIn s) && distinct (map contextId (contextsIn s))) ≡ true = right-of (leb 1 (length (contextsIn s))) _ k in
-    let n = odds-most 128 (map contextId (contextsIn s)) (right-of (all contextOk (contextsIn s)) _ r) (contexts-odd (contextsIn s) (left-of _ _ r)) (runs-bytes (recordsOf s) (records-bytes s b)) in
-    let l = length-map (contextsIn s) contextId in
-    omega arith
+unfolding contextsOk contextsIn
+contexts-most s b g = ids-most contextOk contextId context-odd (contextsIn s) (proposal-contexts s g) (runs-bytes (recordsOf s) (records-bytes s b))
 
 -- so with good sheets a sheet with room for 128 answers is never too short
 pub never-short : (proposal site : List ℕ) (room : ℕ) → Bytes proposal → proposalOk proposal ≡ true → siteOk site ≡ true → RECORD * 128 ≤ room → chooseRefusal proposal site room ≡ NOT-REFUSED
