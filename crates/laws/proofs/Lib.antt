@@ -1,5 +1,6 @@
 pub mod Tests
 pub mod Booleans
+pub mod Found
 pub mod Places
 pub mod Parts
 pub mod Records

@@ -1,5 +1,5 @@
 -- Definitions on lists that the rules of document 01 are written with: tests, and lists cut and joined.
-use mathlib.Core.Bool.{Bool, true, false, not, _&&_, _||_}
+use mathlib.Core.Bool.{Bool, true, false, not, cond, _&&_, _||_}
 use mathlib.Core.List.{List, [], _∷_, _++_}
 use Prim.Native.Nat.{ℕ, zero, suc}
 use lib.Dec.{eqb}
@@ -15,6 +15,11 @@ module _ {A : Type 0} where
   abbrev pub any : (A → Bool) → List A → Bool
   any p [] = false
   any p (x ∷ xs) = p x || any p xs
+
+  -- the place, from 0, of the first element that passes the test; where none does, how many there are
+  abbrev pub firstPlace : (A → Bool) → List A → ℕ
+  firstPlace p [] = 0
+  firstPlace p (x ∷ xs) = cond (p x) 0 (suc (firstPlace p xs))
 
   -- there is no element
   abbrev pub empty : List A → Bool

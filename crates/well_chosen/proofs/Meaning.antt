@@ -12,6 +12,7 @@ use lib.Dec.{leb, eqb}
 use borrow.Author.Tests.{eqb-true, eqb-false}
 use Rattle.laws.specs.Lists.{all, any, empty, sameBytes, distinct}
 use Rattle.laws.proofs.Booleans.{held, holds, left-of, right-of, both-of}
+use Rattle.laws.proofs.Found.{none-at, some-at, any-at}
 use Rattle.laws.proofs.Same.{same-equal, same-self}
 use Rattle.names.specs.Name.{nameOk}
 use Rattle.numbers.specs.Results.{ACCEPTED, ABSTRACT-NOT-SUPPORTED, TRANSFER-NOT-SUPPORTED}
@@ -58,35 +59,9 @@ matches-back : (c : Context) (w : Liked) → Matches c w → matches c w ≡ tru
 unfolding matches wasProposed
 matches-back c w m = both-of _ _ (same-back c w (m .abstract-name)) (let o = m .transfer-name in one-of-back (w .transfer) (c .transfers) (o .place) (o .there) (o .same))
 
--- ---- a record at a place that passes a test, or none
-module _ (p : Liked → Bool) where
-  none-at : (ws : List Liked) → any p ws ≡ false → (k : ℕ) → k < length ws → p (likedAt ws k) ≡ false
-  none-at [] e k h = absurd (omega arith)
-  none-at (w ∷ ws) e zero h = or-left (p w) (any p ws) e
-    where
-      or-left : (a b : Bool) → (a || b) ≡ false → a ≡ false
-      or-left true b q = absurd (held false (sym q))
-      or-left false b q = refl
-  none-at (w ∷ ws) e (suc k) h = none-at ws (or-right (p w) (any p ws) e) k (omega arith)
-    where
-      or-right : (a b : Bool) → (a || b) ≡ false → b ≡ false
-      or-right true b q = absurd (held false (sym q))
-      or-right false b q = q
-
-  some-at : (ws : List Liked) → any p ws ≡ true → (k : ℕ) × ((k < length ws) × (p (likedAt ws k) ≡ true))
-  some-at [] e = absurd (held false e)
-  some-at (w ∷ ws) e = go (p w) refl e (some-at ws)
-    where
-      go : (b : Bool) → p w ≡ b → (b || any p ws) ≡ true → (any p ws ≡ true → ((k : ℕ) × ((k < length ws) × (p (likedAt ws k) ≡ true)))) → (k : ℕ) × ((k < length (w ∷ ws)) × (p (likedAt (w ∷ ws) k) ≡ true))
-      go true q r f = (0, (omega arith, q))
-      go false q r f = let o = f r in let t = o .1 .0 in (suc (o .0), (omega arith, o .1 .1))
-
-  any-at : (ws : List Liked) (k : ℕ) → k < length ws → p (likedAt ws k) ≡ true → any p ws ≡ true
-  any-at ws k h e = go (any p ws) refl
-    where
-      go : (b : Bool) → any p ws ≡ b → b ≡ true
-      go true q = refl
-      go false q = absurd (held false (sym (none-at ws q k h) ∙ e))
+-- ---- past the last record
+abbrev past : Liked
+past = likedAt [] 0
 
 -- ---- no better-liked match exists
 best : (c : Context) (ws : List Liked) → any (matches c) ws ≡ true → Best ws c (transferFor c ws)
@@ -108,16 +83,16 @@ best c (w ∷ ws) e = go (matches c w) refl e (best c ws)
 no-common : (c : Context) (ws : List Liked) → any (matches c) ws ≡ false → any (sameAbstract c) ws ≡ true → NoCommon ws c
 unfolding sameAbstract
 no-common c ws e q =
-    let o = some-at (sameAbstract c) ws q in
+    let o = some-at (sameAbstract c) past ws q in
     record {
-      none = λ k h m. held false (sym (none-at (matches c) ws e k h) ∙ matches-back c (likedAt ws k) m);
+      none = λ k h m. held false (sym (none-at (matches c) past ws e k h) ∙ matches-back c (likedAt ws k) m);
       place = o .0;
       there = o .1 .0;
       abstract-name = same-equal _ _ (held _ (o .1 .1));
     }
 
 not-there : (c : Context) (ws : List Liked) → any (sameAbstract c) ws ≡ false → NotThere ws c
-not-there c ws e k h m = held false (sym (none-at (sameAbstract c) ws e k h) ∙ same-back c (likedAt ws k) m)
+not-there c ws e k h m = held false (sym (none-at (sameAbstract c) past ws e k h) ∙ same-back c (likedAt ws k) m)
 
 -- which result comes when
 module _ (c : Context) (ws : List Liked) where
@@ -159,7 +134,7 @@ module _ (c : Context) (ws : List Liked) where
 
   -- and back
   best-so : (x : List ℕ) → Best ws c x → any (matches c) ws ≡ true
-  best-so x o = any-at (matches c) ws (o .place) (o .there) (matches-back c (likedAt ws (o .place)) (o .matching))
+  best-so x o = any-at (matches c) past ws (o .place) (o .there) (matches-back c (likedAt ws (o .place)) (o .matching))
 
   -- the best name is the one that is found
   best-name : (x : List ℕ) → Best ws c x → transferFor c ws ≡ x
@@ -176,18 +151,18 @@ module _ (c : Context) (ws : List Liked) where
   none-so f = go (any (matches c) ws) refl
     where
       go : (d : Bool) → any (matches c) ws ≡ d → d ≡ false
-      go true e = let o = some-at (matches c) ws e in absurd (f (o .0) (o .1 .0) (matches-means c (likedAt ws (o .0)) (o .1 .1)))
+      go true e = let o = some-at (matches c) past ws e in absurd (f (o .0) (o .1 .0) (matches-means c (likedAt ws (o .0)) (o .1 .1)))
       go false e = refl
 
   no-common-so : NoCommon ws c → resultFor c ws ≡ TRANSFER-NOT-SUPPORTED
-  no-common-so n = by-result false true (none-so (n .none)) (any-at (sameAbstract c) ws (n .place) (n .there) (same-back c (likedAt ws (n .place)) (n .abstract-name)))
+  no-common-so n = by-result false true (none-so (n .none)) (any-at (sameAbstract c) past ws (n .place) (n .there) (same-back c (likedAt ws (n .place)) (n .abstract-name)))
 
   not-there-so : NotThere ws c → resultFor c ws ≡ ABSTRACT-NOT-SUPPORTED
   unfolding sameAbstract
   not-there-so n = by-result false false (none-so (λ k h m. n k h (m .abstract-name))) (go (any (sameAbstract c) ws) refl)
     where
       go : (d : Bool) → any (sameAbstract c) ws ≡ d → d ≡ false
-      go true e = let o = some-at (sameAbstract c) ws e in absurd (n (o .0) (o .1 .0) (same-equal _ _ (held _ (o .1 .1))))
+      go true e = let o = some-at (sameAbstract c) past ws e in absurd (n (o .0) (o .1 .0) (same-equal _ _ (held _ (o .1 .1))))
       go false e = refl
 
 -- where none matches, no name
