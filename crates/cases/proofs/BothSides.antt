@@ -10,6 +10,7 @@ use Rattle.octets.specs.Octets.{be16, be32}
 use Rattle.octets.specs.Put.{put, front}
 use Rattle.names.specs.Name.{nameOk}
 use Rattle.titles.specs.Title.{titleOk, trimEnd, titlesEqual}
+use Rattle.titles.specs.Own.{listOk, titleRefusal, known, titlePlace}
 use Rattle.names.proofs.NameLaws.{name-long}
 use Rattle.items.specs.Items.{step, walkIn, walk, filled, bodies, types, only, goodBodies, holds}
 use Rattle.contents.specs.Contents.{subsOk, good20H, one, userGood, good50H, contextGood, topGood, topOk, ids, itemsOk, maximumIn}
@@ -49,6 +50,10 @@ pdus : Unit {0}
 unfolding kindOf acceptable maximumOf whole validAs requestOk dataOk releaseOk abortPduOk abortOk nameOk titleOk items
 pdus = tt
 
+places : Unit {0}
+unfolding titleRefusal known titlePlace listOk titlesEqual trimEnd
+places = tt
+
 pub both-sides : (map (λ (r : Row). gives (r .asked)) cases ≡ map (λ (r : Row). r .answered) cases) × ((s : List ℕ) → 64 < length s → nameOk s ≡ false)
-unfolding cases calls frames machine pdus trimEnd titlesEqual
+unfolding cases calls frames machine pdus places
 both-sides = (refl, name-long)

@@ -6,8 +6,9 @@ use lib.ListN.{take, replicate}
 use lib.Dec.{eqb}
 use Rattle.laws.specs.Text.{bytes}
 use Rattle.numbers.specs.Lengths.{BUFFER, TEN}
+use Rattle.numbers.specs.Refusals.{NOT-REFUSED}
 use Rattle.names.specs.Name.{nameOk}
-use Rattle.titles.specs.Title.{titlesEqual}
+use Rattle.titles.specs.Own.{titleRefusal, known, titlePlace}
 use Rattle.judging.specs.Pdu.{kindOf}
 use Rattle.table.specs.ActionNames.{AE-6, AR-6, AR-8, AA-7, AA-8}
 use Rattle.association.specs.Record.{timed}
@@ -18,8 +19,8 @@ use Rattle.association.specs.Calls.{Call, receiveOf}
 pub data Question : Type 0 where
   -- a call of `receive` in a state, as the requestor or not, with nothing gathered, on a piece
   receive : ℕ → Bool → List ℕ → Question
-  -- whether two titles are equal; whether bytes are a whole valid PDU; whether bytes are a name
-  equal : List ℕ → List ℕ → Question
+  -- which of our own titles a sought one is; whether bytes are a whole valid PDU; whether bytes are a name
+  place : List ℕ → List ℕ → Question
   pdu : List ℕ → Question
   name : List ℕ → Question
 
@@ -28,6 +29,8 @@ pub data Question : Type 0 where
 pub data Outcome : Type 0 where
   -- bytes used, action (0 for none), state after, whether deaf, length of the PDU shown, the bytes sent
   did : ℕ → ℕ → ℕ → Bool → ℕ → List ℕ → Outcome
+  -- refusal, whether known, the place
+  finds : ℕ → Bool → ℕ → Outcome
   says : Bool → Outcome
 
 abbrev valid : Outcome
@@ -36,11 +39,11 @@ valid = says true
 abbrev invalid : Outcome
 invalid = says false
 
-abbrev same : Outcome
-same = says true
+abbrev stands : ℕ → Outcome
+stands k = finds NOT-REFUSED true k
 
-abbrev differs : Outcome
-differs = says false
+abbrev none : Outcome
+none = finds NOT-REFUSED false 0
 
 -- what a host sees of a call
 abbrev pub seenAs : Call → Outcome
@@ -51,7 +54,7 @@ abbrev pub gives : Question → Outcome
 gives (receive s q p) =
     seenAs
     (receiveOf (record { state = s; gathered = 0; deaf = false; artim = timed s; requestor = q; «peer_max» = 0 }) (replicate BUFFER 0) p (replicate TEN 0))
-gives (equal a b) = says (titlesEqual a b)
+gives (place own sought) = finds (titleRefusal own sought) (known own sought) (titlePlace own sought)
 gives (pdu p) = says (not (eqb (kindOf p) 0))
 gives (name s) = says (nameOk s)
 
@@ -103,8 +106,9 @@ cases =
     ∷ asks (receive 6 acceptor (0x08 ∷ 0x00 ∷ 0x00 ∷ 0x00 ∷ 0x40 ∷ 0x01 ∷ 0xFF ∷ []))
     (did 6 AA-8 13 true 0 (0x07 ∷ 0x00 ∷ 0x00 ∷ 0x00 ∷ 0x00 ∷ 0x04 ∷ 0x00 ∷ 0x00 ∷ 0x02 ∷ 0x06 ∷ []))
     -- 4: " STORE-EQUINE   " equals STORE-EQUINE padded; STORE-EXOTIC differs
-    ∷ asks (equal (bytes " STORE-EQUINE   ") (bytes "STORE-EQUINE    ")) same
-    ∷ asks (equal (bytes " STORE-EQUINE   ") (bytes "STORE-EXOTIC    ")) differs
+    ∷ asks (place (bytes "STORE-EQUINE    ") (bytes " STORE-EQUINE   ")) (stands 0)
+    ∷ asks (place (bytes "STORE-EXOTIC    ") (bytes " STORE-EQUINE   ")) none
+    ∷ asks (place (bytes "STORE-EXOTIC    STORE-EQUINE    ") (bytes " STORE-EQUINE   ")) (stands 1)
     -- 5: RELEASE-RQ in Sta7: requestor to Sta9, acceptor to Sta10
     ∷ asks (receive 7 requestor releaseRq) (did 10 AR-8 9 false 0 [])
     ∷ asks (receive 7 acceptor releaseRq) (did 10 AR-8 10 false 0 [])

@@ -22,7 +22,7 @@ use Rattle.feohanna.proofs.readers.feo_raw_read_abort as read-abort
 use Rattle.feohanna.proofs.readers.feo_raw_read_data as read-data
 use Rattle.feohanna.proofs.readers.feo_raw_pdv_at as pdv-at
 use Rattle.feohanna.proofs.choose.feo_raw_choose as choose
-use Rattle.feohanna.proofs.title.feo_raw_title_known as title-known
+use Rattle.feohanna.proofs.title.feo_raw_title_place as title-place
 
 -- what is handed out beside the refusal
 abbrev rest : Handed → Handed
@@ -84,6 +84,6 @@ pub feo-raw-choose-agrees : AgreesLent {L = ℕ × List ℕ} 4 choose.Kinds.ps c
     (λ κs x. (now (x .1 .1 .1 .0), now (x .1 .1 .0)))
 feo-raw-choose-agrees κs args a b x y p q = (ap (λ c. c .refusal) (agree (p .answer) (q .answer)), λ i. (agree (p .answer) (q .answer) i .records, agree (p .sheet) (q .sheet) i))
 
-pub feo-raw-title-known-agrees : AgreesLent 3 title-known.Kinds.ps title-known.Kinds.r title-known.Reads.Post
-    (λ κs x. now (x .1 .1 .0))
-feo-raw-title-known-agrees κs args a b x y p q = (agree (p .refused) (q .refused), agree (p .answer) (q .answer))
+pub feo-raw-title-place-agrees : AgreesLent {L = ℕ × ℕ} 4 title-place.Kinds.ps title-place.Kinds.r title-place.Reads.Post
+    (λ κs x. (now (x .1 .1 .0), now (x .1 .1 .1 .0)))
+feo-raw-title-place-agrees κs args a b x y p q = (agree (p .refused) (q .refused), λ i. (agree (p .answer) (q .answer) i, agree (p .place) (q .place) i))

@@ -19,4 +19,4 @@ pub use readers::feo_raw_read_accept;
 pub use readers::feo_raw_read_data;
 pub use readers::feo_raw_read_reject;
 pub use readers::feo_raw_read_request;
-pub use title::feo_raw_title_known;
+pub use title::feo_raw_title_place;

@@ -1,23 +1,31 @@
-// The check of a sought title against our own.
-use titles::Known;
+// The check of a sought title against our own: which of them it is.
+use titles::Place;
 ghost use Rattle.titles.specs.Own.{Checked};
 
 #[no_mangle]
-pub extern "C" fn feo_raw_title_known(own: &[u8], sought: &[u8], known: &mut u8) -> u8
-    ensures { λ r. ⌜ Checked (now (own .entry)) (now (sought .entry)) r (now (known .exit)) ⌝ }
+pub extern "C" fn feo_raw_title_place(
+    own: &[u8],
+    sought: &[u8],
+    known: &mut u8,
+    place: &mut u8,
+) -> u8
+    ensures { λ r. ⌜ Checked (now (own .entry)) (now (sought .entry)) r (now (known .exit)) (now (place .exit)) ⌝ }
 {
-    let k = titles::title_known(own, sought);
-    match k {
-        Known::Yes => {
+    let found = titles::title_place(own, sought);
+    match found {
+        Place::At(k) => {
             *known = 1;
+            *place = k as u8;
             numbers::NOT_REFUSED
         }
-        Known::No => {
+        Place::None => {
             *known = 0;
+            *place = 0;
             numbers::NOT_REFUSED
         }
-        Known::Refused => {
+        Place::Refused => {
             *known = 0;
+            *place = 0;
             numbers::BAD_CONTENTS
         }
     }

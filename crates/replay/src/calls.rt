@@ -67,7 +67,7 @@ fn plain_call(call: u8, line: &[u8], w: &Words) {
         b'B' => readers::abort(line, w),
         b'D' => readers::data(line, w),
         b'P' => readers::pdv_at(line, w),
-        b'T' => readers::title_known(line, w),
+        b'T' => readers::title_place(line, w),
         b'C' => readers::choose(line, w),
         b'N' => yes_or_no(names::name_ok(bytes(line, w, FIRST))),
         b'V' => yes_or_no(titles::title_ok(bytes(line, w, FIRST))),

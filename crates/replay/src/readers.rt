@@ -13,7 +13,7 @@ use crate::words::Words;
 use crate::words::bytes;
 use crate::words::number;
 use reading::Associate;
-use titles::Known;
+use titles::Place;
 
 // K PDU
 pub(crate) fn kind(line: &[u8], w: &Words) {
@@ -101,17 +101,17 @@ pub(crate) fn pdv_at(line: &[u8], w: &Words) {
     );
 }
 
-fn two(refusal: u8, known: u64) {
-    print(&[refusal as u64, known]);
+fn place_found(refusal: u8, known: u64, place: u64) {
+    print(&[refusal as u64, known, place]);
 }
 
 // T OWN SOUGHT
-pub(crate) fn title_known(line: &[u8], w: &Words) {
-    let known = titles::title_known(bytes(line, w, FIRST), bytes(line, w, SECOND));
-    match known {
-        Known::Yes => two(numbers::NOT_REFUSED, 1),
-        Known::No => two(numbers::NOT_REFUSED, 0),
-        Known::Refused => two(numbers::BAD_CONTENTS, 0),
+pub(crate) fn title_place(line: &[u8], w: &Words) {
+    let found = titles::title_place(bytes(line, w, FIRST), bytes(line, w, SECOND));
+    match found {
+        Place::At(k) => place_found(numbers::NOT_REFUSED, 1, k as u64),
+        Place::None => place_found(numbers::NOT_REFUSED, 0, 0),
+        Place::Refused => place_found(numbers::BAD_CONTENTS, 0, 0),
     }
 }
 

@@ -1,28 +1,29 @@
 -- Laws of our own titles: the loop is at the j-th of n records of 16 bytes, and each way through the check.
 -- Assumes nothing.
-use Prim.Native.Nat.{ℕ, _<_, _≤_, _+_, _-_, _*_, _/_, _%_}
-use mathlib.Core.Path.{_≡_, refl, sym, _∙_}
+use Prim.Native.Nat.{ℕ, suc, _<_, _≤_, _+_, _-_, _*_, _/_, _%_}
+use mathlib.Core.Path.{_≡_, refl, sym, ap, _∙_}
 use mathlib.Core.Bool.{Bool, true, false, cond, not, and-false}
-use mathlib.Core.List.{List}
+use mathlib.Core.List.{List, []}
 use lib.ListN.{length, take, drop}
-use native.Mathlib.Nat.{sub-zero}
+use native.Mathlib.Nat.{sub-zero, zero-add, add-zero}
 use native.Mathlib.Omega.{arith}
 use borrow.Author.Needs.{needs}
 use borrow.Author.Tests.{eq-eqb, ne-eqb, le-leb, lt-leb, not-true, not-false}
-use Rattle.laws.specs.Lists.{all, any, records}
-use Rattle.laws.proofs.Records.{records-step, records-over}
+use Rattle.laws.specs.Lists.{all, firstPlace, records}
+use Rattle.laws.proofs.Found.{first-some, first-none}
+use Rattle.laws.proofs.Records.{records-step, records-over, records-count}
 use Rattle.titles.specs.Title.{titleOk, titlesEqual}
-use Rattle.titles.specs.Own.{titles, listOk, titleRefusal, titleValue, Checked, refusal, value}
-use Rattle.titles.specs.declared.own.Known.{Known}
-use Rattle.titles.specs.declared.own.Known.the-variants.{Yes, No, Refused}
+use Rattle.titles.specs.Own.{titles, listOk, titleRefusal, known, titlePlace, Checked, refusal, knownAs, placeAs}
+use Rattle.titles.specs.declared.own.Place.{Place}
+use Rattle.titles.specs.declared.own.Place.the-variants.{At, None, Refused}
 
 -- ---- all of them pass p. b is what the code finds at the j-th
 module _ (p : List ℕ → Bool) (l : List ℕ) where
   pub all-holds : all p (records 16 (length l / 16 - 0) l) ≡ all p (titles l)
   all-holds = rw (sub-zero (length l / 16))
 
-  pub any-holds : any p (records 16 (length l / 16 - 0) l) ≡ any p (titles l)
-  any-holds = rw (sub-zero (length l / 16))
+  pub place-holds : 0 + firstPlace p (records 16 (length l / 16 - 0) l) ≡ firstPlace p (titles l)
+  place-holds = rw (sub-zero (length l / 16), zero-add (firstPlace p (titles l)))
 
 pub list-odd : (l : List ℕ) → (length l % 16 ≡ 0 → ⊥) → false ≡ listOk l
 unfolding listOk
@@ -48,58 +49,61 @@ module _ (l : List ℕ) (n j : ℕ) (v : all titleOk (records 16 (n - j) (drop (
 
 pub ruleset list-laws = (needs, all-holds, list-odd, list-long, list-next, list-stop, list-end)
 
-module _ (p : List ℕ → Bool) (l : List ℕ) (n j : ℕ) (v : any p (records 16 (n - j) (drop (j * 16) l)) ≡ any p (titles l)) where
-  pub any-next : (b : Bool) → j < n → b ≡ p (take (j * 16 + 16 - j * 16) (drop (j * 16) l)) → b ≡ false → any p (records 16 (n - (j + 1)) (drop ((j + 1) * 16) l)) ≡ any p (titles l)
-  any-next b h e t = simp (records-step 16 n j l h, sym e ∙ t) at v
+-- k of them are passed, and the first of the rest that passes the test is the first of all
+module _ (p : List ℕ → Bool) (l : List ℕ) (n j : ℕ) (v : j + firstPlace p (records 16 (n - j) (drop (j * 16) l)) ≡ firstPlace p (titles l)) where
+  pub place-next : (b : Bool) → j < n → b ≡ p (take (j * 16 + 16 - j * 16) (drop (j * 16) l)) → b ≡ false → j + 1 + firstPlace p (records 16 (n - (j + 1)) (drop ((j + 1) * 16) l)) ≡ firstPlace p (titles l)
+  place-next b h e t =
+      let w : j + suc (firstPlace p (records 16 (n - (j + 1)) (drop ((j + 1) * 16) l))) ≡ firstPlace p (titles l) = simp (records-step 16 n j l h, sym e ∙ t) at v in
+      omega (arith, w)
 
-  pub any-stop : (b : Bool) → j < n → b ≡ p (take (j * 16 + 16 - j * 16) (drop (j * 16) l)) → b ≡ true → true ≡ any p (titles l)
-  any-stop b h e t = simp (records-step 16 n j l h, sym e ∙ t) at v
+  pub place-stop : (b : Bool) → j < n → b ≡ p (take (j * 16 + 16 - j * 16) (drop (j * 16) l)) → b ≡ true → j ≡ firstPlace p (titles l)
+  place-stop b h e t = sym (add-zero j) ∙ (simp (records-step 16 n j l h, sym e ∙ t) at v)
 
-  pub any-end : n ≤ j → false ≡ any p (titles l)
-  any-end h = simp (records-over 16 n j (drop (j * 16) l) h) at v
+  pub place-end : n ≤ j → j ≡ firstPlace p (titles l)
+  place-end h = sym (add-zero j) ∙ (simp (records-over 16 n j (drop (j * 16) l) h) at v)
 
-pub ruleset any-laws = (needs, any-holds, any-next, any-stop, any-end)
+pub ruleset first-laws = (needs, place-holds, place-next, place-stop, place-end)
 
 -- ---- the answer
-refused-so : (l t : List ℕ) → titleRefusal l t ≡ 4 → Checked l t 4 0
-unfolding titleValue
-refused-so l t e = record { refused = sym e; answer = simp e }
+refused-so : (l t : List ℕ) → titleRefusal l t ≡ 4 → Checked l t 4 0 0
+unfolding known titlePlace
+refused-so l t e = record { refused = sym e; answer = simp e; place = simp e }
 
 either : (b : Bool) → _≡_ {A = ℕ} (cond b 4 4) 4
 either true = refl
 either false = refl
 
-pub known-other : (l t : List ℕ) → (length t ≡ 16 → ⊥) → Checked l t 4 0
+pub place-other : (l t : List ℕ) → (length t ≡ 16 → ⊥) → Checked l t 4 0 0
 unfolding titleRefusal
-known-other l t n = refused-so l t (simp (ne-eqb _ _ n) (either (not (listOk l))))
+place-other l t n = refused-so l t (simp (ne-eqb _ _ n) (either (not (listOk l))))
 
-pub known-bad : (l t : List ℕ) (b : Bool) → b ≡ listOk l → not b ≡ true → Checked l t 4 0
+pub place-bad : (l t : List ℕ) (b : Bool) → b ≡ listOk l → not b ≡ true → Checked l t 4 0 0
 unfolding titleRefusal
-known-bad l t b e f = refused-so l t (simp (sym e ∙ not-true b f))
+place-bad l t b e f = refused-so l t (simp (sym e ∙ not-true b f))
 
-module _ (l t : List ℕ) (b d : Bool) (e : b ≡ listOk l) (f : not b ≡ false) (g : d ≡ any (titlesEqual t) (titles l)) (h : length t ≡ 16) where
+module _ (l t : List ℕ) (b : Bool) (k : ℕ) (e : b ≡ listOk l) (f : not b ≡ false) (g : k ≡ firstPlace (titlesEqual t) (titles l)) (h : length t ≡ 16) where
   none : titleRefusal l t ≡ 0
   unfolding titleRefusal
   none = simp (eq-eqb _ _ h, sym e ∙ not-false b f)
 
-  pub known-yes : d ≡ true → Checked l t 0 1
-  unfolding titleValue
-  known-yes q = record { refused = sym none; answer = simp (none, sym g ∙ q) }
+  pub place-found : k < length l / 16 → Checked l t 0 1 k
+  unfolding known titlePlace
+  place-found q = let y = first-some (titlesEqual t) [] (titles l) (rw (← g, records-count 16 (length l / 16) l) q) in record { refused = sym none; answer = simp (none, y); place = simp (none, y) g }
 
-  pub known-no : d ≡ false → Checked l t 0 0
-  unfolding titleValue
-  known-no q = record { refused = sym none; answer = simp (none, sym g ∙ q) }
+  pub place-none : length l / 16 ≤ k → Checked l t 0 0 0
+  unfolding known titlePlace
+  place-none q = let y = first-none (titlesEqual t) [] (titles l) (rw (← g, records-count 16 (length l / 16) l) q) in record { refused = sym none; answer = simp (none, y); place = simp (none, y) }
 
-pub ruleset known-laws = (needs, known-other, known-bad, known-yes, known-no)
+pub ruleset place-laws = (needs, place-other, place-bad, place-found, place-none)
 
--- number and value determine the answer
-pub same-known : (a b : Known) → refusal a ≡ refusal b → value a ≡ value b → a ≡ b
-same-known Yes Yes p q = refl
-same-known Yes No p q = absurd (omega (arith, q))
-same-known Yes Refused p q = absurd (omega (arith, p))
-same-known No Yes p q = absurd (omega (arith, q))
-same-known No No p q = refl
-same-known No Refused p q = absurd (omega (arith, p))
-same-known Refused Yes p q = absurd (omega (arith, p))
-same-known Refused No p q = absurd (omega (arith, p))
-same-known Refused Refused p q = refl
+-- the three numbers determine the answer
+pub same-place : (a b : Place) → refusal a ≡ refusal b → knownAs a ≡ knownAs b → placeAs a ≡ placeAs b → a ≡ b
+same-place (At j) (At k) p q e = ap At e
+same-place (At j) None p q e = absurd (omega (arith, q))
+same-place (At j) Refused p q e = absurd (omega (arith, p))
+same-place None (At k) p q e = absurd (omega (arith, q))
+same-place None None p q e = refl
+same-place None Refused p q e = absurd (omega (arith, p))
+same-place Refused (At k) p q e = absurd (omega (arith, p))
+same-place Refused None p q e = absurd (omega (arith, p))
+same-place Refused Refused p q e = refl

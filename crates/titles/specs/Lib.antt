@@ -1,2 +1,3 @@
 pub mod Title
 pub mod Own
+pub mod Meaning

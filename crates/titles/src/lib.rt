@@ -4,6 +4,6 @@ mod own;
 mod title;
 
 pub use equal::titles_equal;
-pub use own::Known;
-pub use own::title_known;
+pub use own::Place;
+pub use own::title_place;
 pub use title::title_ok;

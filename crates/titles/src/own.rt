@@ -1,15 +1,17 @@
-// The check of a sought title against our own.
+// The check of a sought title against our own: which of them it is.
 ghost use mathlib.Core.Path.{_≡_};
-ghost use Rattle.laws.specs.Lists.{any};
+ghost use Rattle.laws.specs.Lists.{firstPlace};
 ghost use Rattle.titles.specs.Title.{titlesEqual};
-ghost use Rattle.titles.specs.Own.{titles, listOk, Checked, refusal, value};
+ghost use Rattle.titles.specs.Own.{titles, listOk, Checked, refusal, knownAs, placeAs};
 use crate::equal::titles_equal;
 use crate::title::title_ok;
 use numbers::TITLE;
 
-pub enum Known {
-    Yes,
-    No,
+// Where the title sought stands among our own.
+pub enum Place {
+    // at this place, from 0 to 7
+    At(usize),
+    None,
     // numbers::BAD_CONTENTS
     Refused,
 }
@@ -36,35 +38,37 @@ fn list_ok(own: &[u8]) -> bool
     true
 }
 
-// Whether one of the titles of own equals t.
-fn any_equal(own: &[u8], t: &[u8]) -> bool
-    ensures { λ r. ⌜ r ≡ any (titlesEqual (now (t .entry))) (titles (now (own .entry))) ⌝ }
+// The place of the first title of own that equals t, or how many titles there are where none does.
+fn first_equal(own: &[u8], t: &[u8]) -> usize
+    ensures { λ r. ⌜ r ≡ firstPlace (titlesEqual (now (t .entry))) (titles (now (own .entry))) ⌝ }
 {
     let n = own.len() / TITLE;
-    let mut k = 0;
-    while k < n {
-        let at = k * TITLE;
-        if titles_equal(t, &own[at..at + TITLE]) {
-            return true;
+    let mut place = 0;
+    while place < n {
+        let at = place * TITLE;
+        let equal = titles_equal(t, &own[at..at + TITLE]);
+        if equal {
+            return place;
         }
-        k += 1;
+        place += 1;
     }
-    false
+    place
 }
 
-// Whether the title sought is among our own.
-pub fn title_known(own: &[u8], sought: &[u8]) -> Known
-    ensures { λ r. ⌜ Checked (now (own .entry)) (now (sought .entry)) (refusal r) (value r) ⌝ }
+// Which of our own titles the sought one is. The list is tested whole before it is searched.
+pub fn title_place(own: &[u8], sought: &[u8]) -> Place
+    ensures { λ r. ⌜ Checked (now (own .entry)) (now (sought .entry)) (refusal r) (knownAs r) (placeAs r) ⌝ }
 {
     if sought.len() != TITLE {
-        return Known::Refused;
+        return Place::Refused;
     }
     if !list_ok(own) {
-        return Known::Refused;
+        return Place::Refused;
     }
-    if any_equal(own, sought) {
-        Known::Yes
-    } else {
-        Known::No
+    let count = own.len() / TITLE;
+    let place = first_equal(own, sought);
+    if place < count {
+        return Place::At(place);
     }
+    Place::None
 }
