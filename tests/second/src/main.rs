@@ -1,4 +1,4 @@
-//! The second program: document 01 and requests E1 and E2 by value, for comparison with the proved one.
+//! The second program: document 01 and requests E1 to E3 by value, for comparison with the proved one.
 
 mod calls_bad;
 mod calls_choose;
@@ -36,7 +36,7 @@ use std::fs::File;
 use std::io::{self, BufRead, BufWriter, Read, Write};
 use std::process::exit;
 
-const HELP: &str = "second: document 01 and requests E1 and E2 written a second time, by value
+const HELP: &str = "second: document 01 and requests E1 to E3 written a second time, by value
 
 second answer                                  answers the call lines of standard input
 second generate SEED COUNT                     prints COUNT call lines

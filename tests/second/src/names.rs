@@ -1,4 +1,4 @@
-//! Names and titles: a name, an RQ title, equal titles, and the check of a sought title.
+//! Names and titles: a name, an RQ title, equal titles, and the place of a sought title among our own.
 
 /// A name is 1 to 64 bytes of digits and dots, made of good components.
 pub fn name_is_valid(name: &[u8]) -> bool {
@@ -41,10 +41,11 @@ fn own_titles_are_good(own: &[u8]) -> bool {
     own.chunks_exact(16).remainder().is_empty() && own.len() <= 8 * 16 && own.chunks(16).all(title_is_valid)
 }
 
-/// The title check: is the sought title one of our own? Refused with 4.
-pub fn title_check(own: &[u8], sought: &[u8]) -> Result<bool, u8> {
+/// The title check: the place, from 0, of the first own title equal to the sought one, or none. The list is tested
+/// whole before it is searched; refused with 4.
+pub fn title_place(own: &[u8], sought: &[u8]) -> Result<Option<usize>, u8> {
     if sought.len() != 16 || !own_titles_are_good(own) {
         return Err(4);
     }
-    Ok(own.chunks(16).any(|title| titles_equal(title, sought)))
+    Ok(own.chunks(16).position(|title| titles_equal(title, sought)))
 }

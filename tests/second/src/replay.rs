@@ -4,7 +4,7 @@ use crate::choose::choose;
 use crate::fields::{kind, pdv_at, read_abort, read_ac, read_pdv, read_rj, read_rq, Fields, RECORD};
 use crate::generate::hex;
 use crate::machine::{local_event, receive, Answer, Lent, Record, Request};
-use crate::names::{name_is_valid, title_check, title_is_valid, titles_equal};
+use crate::names::{name_is_valid, title_is_valid, title_place, titles_equal};
 use crate::write;
 
 /// The longest byte string, and the longest gather buffer or output.
@@ -21,6 +21,8 @@ pub struct Last {
     pub kind: u8,
     /// Which results, 0 to 4, an answer sheet of C holds.
     pub results: [bool; 5],
+    /// Where T found the sought title.
+    pub place: Option<usize>,
 }
 
 /// Keeps the memory lent from one machine call to the next.
@@ -341,9 +343,12 @@ impl Replay {
         let second = if call == "T" || call == "E" { words.string()? } else { Vec::new() };
         words.end()?;
         Some(match call {
-            "T" => match title_check(&first, &second) {
-                Ok(known) => format!("0 {}", known as u8),
-                Err(refusal) => self.refused(refusal, " 0"),
+            "T" => match title_place(&first, &second) {
+                Ok(place) => {
+                    self.last.place = place;
+                    format!("0 {} {}", place.is_some() as u8, place.unwrap_or(0))
+                }
+                Err(refusal) => self.refused(refusal, " 0 0"),
             },
             "N" => (name_is_valid(&first) as u8).to_string(),
             "V" => (title_is_valid(&first) as u8).to_string(),
