@@ -178,46 +178,6 @@ impl Generator {
         self.random.pick(&[6, 6, 6, within, within, end, length + 1, far])
     }
 
-    pub fn call_t(&mut self) {
-        let count = self.random.pick(&[0, 1, 1, 2, 3, 8, 8, 9, 9]);
-        let mut own: Vec<Vec<u8>> = (0..count).map(|_| good_title(&mut self.random)).collect();
-        if count > 0 && self.random.chance(20) {
-            let place = self.random.below(count);
-            own[place] = bad_title(&mut self.random);
-        }
-        let mut list = own.concat();
-        match self.random.below(12) {
-            0 => list.push(b'A'),
-            1 => {
-                list.pop();
-            }
-            _ => {}
-        }
-        let sought = self.sought_title(&own);
-        self.say(format!("T {} {}", hex(&list), hex(&sought)));
-    }
-
-    pub fn sought_title(&mut self, own: &[Vec<u8>]) -> Vec<u8> {
-        match self.random.below(8) {
-            0 => title_of_other_length(&mut self.random),
-            1 => bad_title(&mut self.random),
-            2 => good_title(&mut self.random),
-            _ if own.is_empty() => good_title(&mut self.random),
-            3 => {
-                let mut title = self.random.pick(own);
-                let place = self.random.below(16);
-                title[place] ^= 0x20;
-                title
-            }
-            4 => {
-                let mut title = self.random.pick(own);
-                title.rotate_right(1);
-                title
-            }
-            _ => self.random.pick(own),
-        }
-    }
-
     pub fn call_n(&mut self) {
         let name = match self.random.below(4) {
             0 => good_name(&mut self.random),

@@ -3,6 +3,7 @@
 use std::collections::BTreeMap;
 
 use crate::calls_refused;
+use crate::calls_titles;
 use crate::contents;
 use crate::generate::{filled_cells, Generator, BRANCHES};
 use crate::machine::cell;
@@ -19,6 +20,7 @@ struct Counts {
     kinds: BTreeMap<u8, u64>,
     acceptable: u64,
     results: BTreeMap<Vec<usize>, u64>,
+    places: BTreeMap<(usize, Option<usize>), u64>,
     over: u64,
 }
 
@@ -33,6 +35,7 @@ pub fn report(seed: u64, count: usize) -> String {
     let mut text = format!("{} calls, {} bytes of call text, {} of bad form\n", count, counts.bytes, counts.bad_form);
     text += &refusals(&counts);
     text += &cells(&counts);
+    text += &places(&counts);
     text += &smaller(&counts);
     text += &branches(&generator.marks.counts);
     text
@@ -61,7 +64,15 @@ fn note(counts: &mut Counts, line: &str, answer: &str, last: &crate::replay::Las
         let results = (0..5).filter(|result| last.results[*result]).collect();
         *counts.results.entry(results).or_insert(0) += 1;
     }
+    if call == "T" && last.refusal == 0 {
+        *counts.places.entry((own_titles(line), last.place)).or_insert(0) += 1;
+    }
     counts.over += (line.len() > 30_000) as u64;
+}
+
+/// How many own titles a T line gives.
+fn own_titles(line: &str) -> usize {
+    line.split(' ').nth(1).map_or(0, |own| own.len() / 32)
 }
 
 fn refusals(counts: &Counts) -> String {
@@ -97,6 +108,18 @@ fn cells(counts: &Counts) -> String {
     text
 }
 
+fn places(counts: &Counts) -> String {
+    let mut text = "places answered by T (none, 0 to 7), by the length of the list\n".to_string();
+    for length in 0..=8 {
+        text += &format!("{} titles:", length);
+        for place in [None].into_iter().chain((0..length).map(Some)) {
+            text += &format!("{:>7}", counts.places.get(&(length, place)).unwrap_or(&0));
+        }
+        text += "\n";
+    }
+    text
+}
+
 fn smaller(counts: &Counts) -> String {
     let mut text = format!("actions 1 to 28 met: {}\n", counts.actions.len());
     text += &format!("states before machine calls: {:?}\n", counts.states);
@@ -111,6 +134,7 @@ fn branches(used: &BTreeMap<String, u64>) -> String {
     all.extend(twists::twist_names().iter().map(|name| format!("twist: {}", name)));
     all.extend(contents::twist_marks());
     all.extend(calls_refused::behind_marks());
+    all.extend(calls_titles::title_marks());
     let missing: Vec<&String> = all.iter().filter(|name| !used.contains_key(*name)).collect();
     let mut text = "branches and twists used\n".to_string();
     for (name, count) in used {

@@ -2,6 +2,7 @@
 
 use std::collections::VecDeque;
 
+use crate::calls_titles::title_turns;
 use crate::contents::{AcContents, RqContents};
 use crate::machine::cell;
 use crate::make::{some_maximum, some_reject};
@@ -82,7 +83,7 @@ pub static BRANCHES: &[Branch] = &[
     Branch { name: "D", weight: 105, run: Generator::call_d },
     Branch { name: "P", weight: 105, run: Generator::call_p },
     Branch { name: "C", weight: 220, run: Generator::call_c },
-    Branch { name: "T", weight: 50, run: Generator::call_t },
+    Branch { name: "T", weight: 100, run: Generator::call_t },
     Branch { name: "N", weight: 45, run: Generator::call_n },
     Branch { name: "V", weight: 30, run: Generator::call_v },
     Branch { name: "E", weight: 40, run: Generator::call_e },
@@ -120,7 +121,7 @@ impl Turns {
     }
 }
 
-fn pairs(first: &[u8], second: &[u8]) -> Vec<(u8, u8)> {
+pub fn pairs(first: &[u8], second: &[u8]) -> Vec<(u8, u8)> {
     first.iter().flat_map(|a| second.iter().map(move |b| (*a, *b))).collect()
 }
 
@@ -144,6 +145,7 @@ pub struct Generator {
     pub aborts: Turns,
     pub items: Turns,
     pub long_choices: Turns,
+    pub titles: Turns,
     pub calls: VecDeque<Call>,
 }
 
@@ -163,6 +165,8 @@ impl Generator {
         let edges: Vec<u8> = (0..=15).collect();
         let items = Turns::new(pairs(&edges, &[0, 1]), &mut random);
         let long_choices = Turns::new(pairs(&[0, 1, 2], &[0, 1]), &mut random);
+        // In an order of its own, which takes no number from the other branches.
+        let titles = Turns::new(title_turns(), &mut Random::new(seed));
         let mut generator = Generator {
             random,
             marks: Marks::default(),
@@ -176,6 +180,7 @@ impl Generator {
             aborts,
             items,
             long_choices,
+            titles,
             calls: VecDeque::new(),
         };
         generator.first_calls();

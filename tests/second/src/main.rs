@@ -5,6 +5,7 @@ mod calls_choose;
 mod calls_large;
 mod calls_machine;
 mod calls_refused;
+mod calls_titles;
 mod calls_value;
 mod choose;
 mod contents;

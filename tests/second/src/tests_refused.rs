@@ -654,8 +654,9 @@ fn long_refused_contexts_are_generated() {
 #[test]
 fn calls_with_refused_contexts_come_often() {
     let mut generator = Generator::new(6);
-    (0..2_000).for_each(|_| drop(generator.next()));
+    (0..6_000).for_each(|_| drop(generator.next()));
     let often = |name: &str| generator.marks.count(&format!("branch: {}", name));
     let (read, sent) = (often("AC with refused contexts"), often("answer with refused records"));
-    assert!(read > 60 && sent > 30 && generator.marks.count("C: the answers are sent") > 5, "{} {}", read, sent);
+    let chosen = generator.marks.count("C: the answers are sent");
+    assert!(read > 180 && sent > 90 && chosen > 15, "{} {} {}", read, sent, chosen);
 }
