@@ -29,6 +29,8 @@ mod tests;
 mod tests_choose;
 #[cfg(test)]
 mod tests_refused;
+#[cfg(test)]
+mod tests_titles;
 mod twists;
 mod valid;
 mod write;

@@ -14,7 +14,7 @@ use crate::machine::{
 };
 use crate::make::{good_data, good_plan, good_short};
 use crate::marks::Marks;
-use crate::names::{name_is_valid, title_is_valid, title_place, titles_equal};
+use crate::names::{name_is_valid, title_is_valid, titles_equal};
 use crate::pdus::{invalid_pdu, over_length_header, rq_with_version, valid_pdu};
 use crate::random::Random;
 use crate::refused::FAULTS;
@@ -586,21 +586,6 @@ fn places_walk_through_a_valid_pdu_as_numbers_do() {
         }
         assert_eq!((place, pdv_at(&bytes, place)), (bytes.len() as u64, Err(4)));
     }
-}
-
-#[test]
-fn title_place_looks_at_the_whole_list() {
-    let own = [EQUINE, EXOTIC].concat();
-    assert_eq!(title_place(&own, b"    STORE-EXOTIC"), Ok(Some(1)));
-    assert_eq!(title_place(&own, &[0x20; 16]), Ok(None));
-    assert_eq!(title_place(&own, &[0; 16]), Ok(None));
-    assert_eq!(title_place(&own, b"STORE-EXOTIC"), Err(4));
-    assert_eq!(title_place(&[], EQUINE), Ok(None));
-    assert_eq!(title_place(&EQUINE.repeat(8), EQUINE), Ok(Some(0)));
-    assert_eq!(title_place(&EQUINE.repeat(9), EQUINE), Err(4));
-    assert_eq!(title_place(&[EQUINE, &[0x20; 16]].concat(), EQUINE), Err(4));
-    assert_eq!(title_place(&own[..31], EQUINE), Err(4));
-    assert!(titles_equal(b"", b"   ") && titles_equal(b"A", b" A ") && !titles_equal(b"A\0", b"A"));
 }
 
 #[test]
