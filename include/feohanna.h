@@ -19,7 +19,7 @@
 #include <string.h>
 
 /* The version. While it begins with 0 its second number grows with every change of a call, a name or what a record holds. */
-#define FEO_VERSION "0.6.0"
+#define FEO_VERSION "0.7.0"
 
 /* Room for any PDU that is received or sent. feo_receive asks it of its gather buffer. */
 #define FEO_BUFFER 16390
@@ -262,7 +262,8 @@ uint8_t feo_raw_read_data(
     const uint8_t *pdu, size_t pdu_len, size_t number, uint8_t *id, uint8_t *control, size_t *start, size_t *length);
 uint8_t feo_raw_pdv_at(
     const uint8_t *pdu, size_t pdu_len, size_t at, uint8_t *id, uint8_t *control, size_t *start, size_t *length);
-uint8_t feo_raw_title_known(const uint8_t *own, size_t own_len, const uint8_t *sought, size_t sought_len, uint8_t *known);
+uint8_t feo_raw_title_place(
+    const uint8_t *own, size_t own_len, const uint8_t *sought, size_t sought_len, uint8_t *known, uint8_t *place);
 uint8_t feo_raw_choose(
     const uint8_t *proposal, size_t proposal_len, const uint8_t *site, size_t site_len, uint8_t *answer, size_t answer_len,
     size_t *records);
@@ -436,10 +437,19 @@ static inline uint8_t feo_pdv_at(
     return feo_raw_pdv_at(feo_part(pdu, pdu_len), pdu_len, at, id, control, start, length);
 }
 
-/* Whether the sought title, 16 bytes, is one of our own: 0 to 8 titles of 16 bytes each. *known is 1 or 0. */
-static inline uint8_t feo_title_known(const uint8_t *own, size_t own_len, const uint8_t *sought, size_t sought_len, uint8_t *known)
+/*
+ * Looks for the sought title, 16 bytes, among our own, 0 to 8 of 16 bytes each. Where it is one of them *known is 1, and *place,
+ * 0 to 7, is that of the first that is equal; outer spaces do not count, case does. Where it is none both are 0: look at *known
+ * before *place, since 0 is the first title's place too.
+ *
+ * Refused by 4 for a bad list (more than 8, a part of one, one that is no title) or a sought title of another length. The list is
+ * tested whole before it is searched: a bad title refuses it also behind one that is equal. Of the sought title only the length is
+ * tested: what is no title is none of ours.
+ */
+static inline uint8_t feo_title_place(
+    const uint8_t *own, size_t own_len, const uint8_t *sought, size_t sought_len, uint8_t *known, uint8_t *place)
 {
-    return feo_raw_title_known(feo_part(own, own_len), own_len, feo_part(sought, sought_len), sought_len, known);
+    return feo_raw_title_place(feo_part(own, own_len), own_len, feo_part(sought, sought_len), sought_len, known, place);
 }
 
 /*
