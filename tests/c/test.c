@@ -362,32 +362,335 @@ static void case_3(void)
     CHECK(feo_read_accept(ac.at, ac.n, sheet, FEO_RECORD_LEN, &f) == 0 && f.records == 1 && memcmp(sheet, answers.at, FEO_RECORD_LEN) == 0);
 }
 
-/* Case 4, and the title check's refusals. */
+/* ---- the title check */
+
+/* What is lent to it, between guard bytes. Behind the list and behind the sought title stands what is not theirs. */
+struct checked {
+    uint8_t guard0[64];
+    uint8_t own[18 * FEO_TITLE_LEN];
+    uint8_t guard1[64];
+    uint8_t sought[3 * FEO_TITLE_LEN];
+    uint8_t guard2[64];
+    uint8_t known;
+    uint8_t guard3[64];
+    uint8_t place;
+    uint8_t guard4[64];
+};
+
+/* It, and a copy from before the call. */
+static struct checked t, lent;
+
+#define OWN(i) (t.own + (size_t)(i) * FEO_TITLE_LEN)
+#define OTHERS_TITLE "BEHIND THE LIST "
+
+/* Writes a title with so many spaces before it, and spaces behind it. */
+static void put_title(uint8_t *to, size_t before_it, const char *title)
+{
+    memset(to, ' ', FEO_TITLE_LEN);
+    memcpy(to + before_it, title, strlen(title));
+}
+
+/* Eight different titles, some with spaces before them; behind them stands one that is not of the list. */
+static const char *const eight[8] = { "A", "B", "STORE-EQUINE", "STORE-EXOTIC", "store-equine", "STORE", "A B", "A  B" };
+
+static void good_titles(void)
+{
+    size_t i;
+    memset(&t, 0xA5, sizeof t);
+    for (i = 0; i < sizeof t.own / FEO_TITLE_LEN; i++)
+        put_title(OWN(i), 0, OTHERS_TITLE);
+    for (i = 0; i < 8; i++)
+        put_title(OWN(i), i % 5, eight[i]);
+    for (i = 0; i < sizeof t.sought / FEO_TITLE_LEN; i++)
+        put_title(t.sought + i * FEO_TITLE_LEN, 0, "A");
+}
+
+/* The answer with these lengths is the one that is said, and nothing else changes. */
+static void answers_place(int line, size_t own_len, size_t sought_len, unsigned refusal, unsigned known, unsigned place)
+{
+    uint8_t got;
+    t.known = t.place = 0xEE;
+    memcpy(&lent, &t, sizeof t);
+    got = feo_title_place(own_len != 0 ? t.own : NULL, own_len, sought_len != 0 ? t.sought : NULL, sought_len, &t.known, &t.place);
+    check(line, got == refusal, "the title check's refusal");
+    check(line, t.known == known, "known");
+    check(line, t.place == place, "place");
+    lent.known = t.known;
+    lent.place = t.place;
+    check(line, memcmp(&t, &lent, sizeof t) == 0, "what is lent to the title check");
+}
+
+#define FOUND(titles, place) answers_place(__LINE__, (titles) * FEO_TITLE_LEN, FEO_TITLE_LEN, 0, 1, (unsigned)(place))
+#define NOT_FOUND(titles) answers_place(__LINE__, (titles) * FEO_TITLE_LEN, FEO_TITLE_LEN, 0, 0, 0)
+#define NOT_TAKEN(own_len, sought_len) answers_place(__LINE__, (own_len), (sought_len), FEO_BAD_CONTENTS, 0, 0)
+
+/* Case 4; what counts in a title. */
 static void case_4_titles(void)
 {
     static const char own[] = "STORE-EXOTIC     STORE-EQUINE   ";
-    static const char nine[] =
-        "A               B               C               D               E               F               G               H               I               ";
-    const uint8_t *o = (const uint8_t *)own, *n = (const uint8_t *)nine;
-    uint8_t known = 9;
-    CHECK(feo_title_known(o + 16, 16, (const uint8_t *)"STORE-EQUINE    ", 16, &known) == 0 && known == 1);
-    CHECK(feo_title_known(o, 16, (const uint8_t *)"STORE-EQUINE    ", 16, &known) == 0 && known == 0);
-    CHECK(feo_title_known(o, 32, (const uint8_t *)"   STORE-EQUINE ", 16, &known) == 0 && known == 1);
-    CHECK(feo_title_known(o, 32, (const uint8_t *)"store-equine    ", 16, &known) == 0 && known == 0);
-    known = 9;
-    CHECK(feo_title_known(NULL, 0, (const uint8_t *)"STORE-EQUINE    ", 16, &known) == 0 && known == 0);
-    CHECK(feo_title_known(o, 32, (const uint8_t *)"                ", 16, &known) == 0 && known == 0);
-    CHECK(feo_title_known(n, 128, n + 112, 16, &known) == 0 && known == 1);
-    known = 9;
-    CHECK(feo_title_known(n, 144, n, 16, &known) == 4 && known == 0);
-    known = 9;
-    CHECK(feo_title_known(n, 31, n, 16, &known) == 4 && known == 0);
-    known = 9;
-    CHECK(feo_title_known(n, 32, n, 15, &known) == 4 && known == 0);
-    known = 9;
-    CHECK(feo_title_known(n, 32, NULL, 0, &known) == 4 && known == 0);
-    known = 9;
-    CHECK(feo_title_known((const uint8_t *)"A               BACK\\SLASH      ", 32, n, 16, &known) == 4 && known == 0);
+    const uint8_t *o = (const uint8_t *)own;
+    uint8_t known = 9, place = 9;
+    size_t i;
+    CHECK(feo_title_place(o + 16, 16, (const uint8_t *)"STORE-EQUINE    ", 16, &known, &place) == 0 && known == 1 && place == 0);
+    CHECK(feo_title_place(o, 16, (const uint8_t *)"STORE-EQUINE    ", 16, &known, &place) == 0 && known == 0 && place == 0);
+    CHECK(feo_title_place(o, 32, (const uint8_t *)"   STORE-EQUINE ", 16, &known, &place) == 0 && known == 1 && place == 1);
+    CHECK(feo_title_place(o, 32, (const uint8_t *)"store-equine    ", 16, &known, &place) == 0 && known == 0 && place == 0);
+    known = place = 9;
+    CHECK(feo_title_place(NULL, 0, (const uint8_t *)"STORE-EQUINE    ", 16, &known, &place) == 0 && known == 0 && place == 0);
+    known = place = 9;
+    CHECK(feo_title_place(o, 32, (const uint8_t *)"                ", 16, &known, &place) == 0 && known == 0 && place == 0);
+    /* the sought title may be a part of the list: both are only read */
+    CHECK(feo_title_place(o, 32, o + 16, 16, &known, &place) == 0 && known == 1 && place == 1);
+    CHECK(feo_title_place(o, 32, o, 16, &known, &place) == 0 && known == 1 && place == 0);
+
+    /* a title of sixteen characters is compared in each of them, inner spaces too */
+    good_titles();
+    put_title(OWN(7), 0, "0123456 89ABCDEF");
+    put_title(t.sought, 0, "0123456 89ABCDEF");
+    FOUND(8, 7);
+    for (i = 0; i < FEO_TITLE_LEN; i++) {
+        t.sought[i] ^= 1;
+        NOT_FOUND(8);
+        t.sought[i] ^= 1;
+        t.own[7 * FEO_TITLE_LEN + i] ^= 1;
+        NOT_FOUND(8);
+        t.own[7 * FEO_TITLE_LEN + i] ^= 1;
+    }
+    /* what is no title is none of ours: only its length is tested */
+    put_title(t.sought, 0, "");
+    NOT_FOUND(8);
+    NOT_FOUND(0);
+    put_title(t.sought, 0, "A\\");
+    NOT_FOUND(8);
+    memset(t.sought, 0, FEO_TITLE_LEN);
+    NOT_FOUND(8);
+    t.sought[0] = 'A';
+    NOT_FOUND(8);
+    put_title(t.sought, 0, "A\t");
+    NOT_FOUND(8);
+}
+
+/* The place of each title in lists of each length, however it is written; none where the list ends before it. */
+static void title_places(void)
+{
+    size_t n, i, before_it;
+    good_titles();
+    for (i = 0; i < 8; i++)
+        for (before_it = 0; before_it + strlen(eight[i]) <= FEO_TITLE_LEN; before_it++) {
+            put_title(t.sought, before_it, eight[i]);
+            for (n = 0; n <= 8; n++)
+                if (i < n)
+                    FOUND(n, i);
+                else
+                    NOT_FOUND(n);
+        }
+    put_title(t.sought, 0, OTHERS_TITLE);
+    for (n = 0; n <= 8; n++)
+        NOT_FOUND(n);
+}
+
+/* Of equal titles the first: of two at each pair of places, equal bytewise or but for outer spaces, and of eight. */
+static void first_place(void)
+{
+    size_t i, j, form;
+    for (i = 0; i < 8; i++)
+        for (j = i + 1; j < 8; j++)
+            for (form = 0; form < 4; form++) {
+                good_titles();
+                put_title(OWN(i), form & 1, "TWICE");
+                put_title(OWN(j), form >> 1, "TWICE");
+                memcpy(t.sought, OWN(i), FEO_TITLE_LEN);
+                FOUND(8, i);
+                FOUND(j + 1, i);
+                FOUND(j, i);
+                /* the later one's very bytes */
+                memcpy(t.sought, OWN(j), FEO_TITLE_LEN);
+                FOUND(8, i);
+                FOUND(j + 1, i);
+                FOUND(j, i);
+                put_title(t.sought, 11, "TWICE");
+                FOUND(8, i);
+            }
+    good_titles();
+    for (i = 0; i < 8; i++)
+        put_title(OWN(i), 0, "EIGHT TIMES");
+    for (i = 0; i < 8; i++) {
+        memcpy(t.sought, OWN(i), FEO_TITLE_LEN);
+        for (j = 1; j <= 8; j++)
+            FOUND(j, 0);
+    }
+    for (i = 0; i < 8; i++)
+        put_title(OWN(i), 5 - i % 6, "EIGHT TIMES");
+    for (i = 0; i < 8; i++) {
+        memcpy(t.sought, OWN(i), FEO_TITLE_LEN);
+        for (j = 1; j <= 8; j++)
+            FOUND(j, 0);
+    }
+}
+
+/* A list is tested whole before it is searched; lengths that are none. */
+static void titles_refused(void)
+{
+    static const char bad[][FEO_TITLE_LEN + 1] = {
+        "                ", "BACK\\SLASH      ", "TAB\tTAB         ", "\177               ", "               \200", "A              \0"
+    };
+    static uint8_t many[65536 + FEO_TITLE_LEN];
+    size_t i, k, n;
+    unsigned byte;
+    uint8_t known, place;
+    /* one that is none, at each place, though the first is the sought one; it is the sought one itself */
+    for (i = 0; i < 8; i++)
+        for (k = 0; k < sizeof bad / sizeof *bad; k++) {
+            good_titles();
+            memcpy(OWN(i), bad[k], FEO_TITLE_LEN);
+            NOT_TAKEN(128, FEO_TITLE_LEN);
+            NOT_TAKEN((i + 1) * FEO_TITLE_LEN, FEO_TITLE_LEN);
+            if (i > 0)
+                FOUND(i, 0);
+            memcpy(t.sought, OWN(i), FEO_TITLE_LEN);
+            NOT_TAKEN(128, FEO_TITLE_LEN);
+            if (i > 0)
+                NOT_FOUND(i);
+        }
+    /* each byte at the first and the last character of the last title: 20H to 7EH without 5CH are title characters */
+    good_titles();
+    for (byte = 0; byte < 256; byte++)
+        for (k = 0; k < FEO_TITLE_LEN; k += FEO_TITLE_LEN - 1) {
+            put_title(OWN(7), 1, "OF FOURTEEN 14");
+            OWN(7)[k] = (uint8_t)byte;
+            if (byte >= 0x20 && byte <= 0x7E && byte != 0x5C)
+                FOUND(8, 0);
+            else
+                NOT_TAKEN(128, FEO_TITLE_LEN);
+        }
+    /* each length */
+    good_titles();
+    for (n = 0; n <= 17 * FEO_TITLE_LEN; n++)
+        if (n % FEO_TITLE_LEN != 0 || n > 128)
+            NOT_TAKEN(n, FEO_TITLE_LEN);
+        else if (n == 0)
+            NOT_FOUND(0);
+        else
+            FOUND(n / FEO_TITLE_LEN, 0);
+    for (n = 0; n <= 33; n++)
+        if (n != FEO_TITLE_LEN) {
+            NOT_TAKEN(128, n);
+            NOT_TAKEN(0, n);
+            NOT_TAKEN(17, n);
+        }
+    /* lengths of which a byte or two would be good */
+    for (n = 0; n < sizeof many; n += FEO_TITLE_LEN)
+        put_title(many + n, 0, "A");
+    for (n = 256; n <= sizeof many; n = n < 65536 ? n * 2 : n + FEO_TITLE_LEN)
+        for (k = n; k <= n + FEO_TITLE_LEN && k <= sizeof many; k += FEO_TITLE_LEN) {
+            known = place = 0xEE;
+            CHECK(feo_title_place(many, k, many, FEO_TITLE_LEN, &known, &place) == 4 && known == 0 && place == 0);
+            known = place = 0xEE;
+            CHECK(feo_title_place(many, FEO_TITLE_LEN, many, k, &known, &place) == 4 && known == 0 && place == 0);
+        }
+}
+
+/* The answer to generated lists, as documents 01 and 02 have it. */
+
+static uint32_t drawn = 1;
+
+static unsigned draw(unsigned below)
+{
+    drawn = drawn * 1664525 + 1013904223;
+    return (unsigned)((drawn >> 8) % below);
+}
+
+/* The characters of a title without its outer spaces: where they begin, and how many they are. */
+static size_t inner(const uint8_t *title, size_t *from)
+{
+    size_t end = FEO_TITLE_LEN;
+    *from = 0;
+    while (*from < end && title[*from] == ' ')
+        ++*from;
+    while (end > *from && title[end - 1] == ' ')
+        end--;
+    return end - *from;
+}
+
+static int is_title(const uint8_t *title)
+{
+    size_t i, from;
+    for (i = 0; i < FEO_TITLE_LEN; i++)
+        if (title[i] < 0x20 || title[i] > 0x7E || title[i] == 0x5C)
+            return 0;
+    return inner(title, &from) != 0;
+}
+
+static int same_title(const uint8_t *x, const uint8_t *y)
+{
+    size_t x_from, y_from, n = inner(x, &x_from);
+    return n == inner(y, &y_from) && memcmp(x + x_from, y + y_from, n) == 0;
+}
+
+/* A title of few characters, so that equal ones come; seldom one that is none. */
+static void draw_title(uint8_t *to)
+{
+    static const char good[] = "  AAB- a~", bad[] = "\\\177\37\200\377\t";
+    size_t i, from = draw(FEO_TITLE_LEN), n = draw(2) == 0 ? 1 + draw(3) : 1 + draw(FEO_TITLE_LEN);
+    memset(to, ' ', FEO_TITLE_LEN);
+    for (i = from; i < from + n && i < FEO_TITLE_LEN; i++)
+        to[i] = (uint8_t)good[draw(sizeof good - 1)];
+    to[from] = (uint8_t)good[2 + draw(3)];
+    if (draw(40) == 0)
+        to[draw(FEO_TITLE_LEN)] = (uint8_t)bad[draw(sizeof bad)];
+    if (draw(60) == 0)
+        memset(to, ' ', FEO_TITLE_LEN);
+}
+
+/* One of our titles once more, its outer spaces laid out anew. */
+static void draw_again(uint8_t *to, const uint8_t *title)
+{
+    size_t from, n = inner(title, &from);
+    uint8_t kept[FEO_TITLE_LEN];
+    memcpy(kept, title, FEO_TITLE_LEN);
+    memset(to, ' ', FEO_TITLE_LEN);
+    memcpy(to + draw((unsigned)(FEO_TITLE_LEN - n + 1)), kept + from, n);
+}
+
+static void generated_titles(void)
+{
+    size_t round, i, n, own_len, sought_len, bad;
+    long places[8] = { 0, 0, 0, 0, 0, 0, 0, 0 }, none = 0, refused_lists = 0, refused_though_found = 0;
+    good_titles();
+    for (round = 0; round < 40000; round++) {
+        n = draw(20) == 0 ? 9 : draw(3) == 0 ? 8 : draw(9);
+        for (i = 0; i < 9; i++)
+            draw_title(OWN(i));
+        if (n > 1 && draw(2) == 0)
+            draw_again(OWN(draw((unsigned)n)), OWN(draw((unsigned)n)));
+        draw_title(t.sought);
+        if (n > 0 && draw(4) != 0)
+            draw_again(t.sought, OWN(draw((unsigned)n)));
+        if (draw(6) == 0)
+            t.sought[draw(FEO_TITLE_LEN)] = (uint8_t)draw(256);
+        own_len = n * FEO_TITLE_LEN + (draw(30) == 0 ? 1 + draw(15) : 0);
+        sought_len = draw(30) == 0 ? draw(33) : FEO_TITLE_LEN;
+
+        bad = own_len % FEO_TITLE_LEN != 0 || own_len > 8 * FEO_TITLE_LEN || sought_len != FEO_TITLE_LEN;
+        for (i = 0; i < n; i++)
+            bad |= !is_title(OWN(i));
+        for (i = 0; i < n && !same_title(OWN(i), t.sought); i++)
+            continue;
+        if (bad) {
+            answers_place(__LINE__, own_len, sought_len, FEO_BAD_CONTENTS, 0, 0);
+            refused_lists++;
+            refused_though_found += i < n && is_title(OWN(i)) && sought_len == FEO_TITLE_LEN;
+        } else {
+            answers_place(__LINE__, own_len, sought_len, 0, i < n, i < n ? (unsigned)i : 0);
+            if (i < n)
+                places[i]++;
+            else
+                none++;
+        }
+    }
+    for (i = 0; i < 8; i++)
+        CHECK(places[i] > 200);
+    CHECK(none > 2000 && refused_lists > 2000 && refused_though_found > 1000);
 }
 
 static void cases_5_to_9(void)
@@ -1938,6 +2241,10 @@ int main(void)
     cases_1_2();
     case_3();
     case_4_titles();
+    title_places();
+    first_place();
+    titles_refused();
+    generated_titles();
     cases_5_to_9();
     case_10();
     case_11();
