@@ -22,6 +22,8 @@ static struct outcome {
     int64_t due[32];  /* when ARTIM expires, after each action */
     size_t actions;
     char taken[65]; /* at AE-3: the transfer syntax in which context 1 is taken; empty: refused */
+    size_t filed[3]; /* bytes of data that came for each of our stores */
+    const struct store *store; /* which one the line has at its end */
     struct bytes back;
 } got;
 
@@ -80,17 +82,23 @@ static uint32_t summed(uint32_t sum, const uint8_t *p, size_t n)
     return sum;
 }
 
-/* Our titles, and what our site takes. */
-static const char own[] = "STORE-EXOTIC     STORE-EQUINE   ";
-static size_t own_len = 32;
-
 #define CR_IMAGE "1.2.840.10008.5.1.4.1.1.1"
 #define EXPLICIT "1.2.840.10008.1.2.1"
 #define JPEG "1.2.840.10008.1.2.4.50"
 
-static const struct liked liked[3] = { { ECHO_CLASS, IMPLICIT }, { CR_IMAGE, EXPLICIT }, { CR_IMAGE, IMPLICIT } };
-static uint8_t site[3 * FEO_RECORD_LEN];
-static size_t site_len = sizeof site;
+/* Our stores, and what they take. */
+enum { EXOTIC, EQUINE, AVIAN, STORES };
+
+static const struct liked exotic[2] = { { ECHO_CLASS, IMPLICIT }, { CR_IMAGE, JPEG } };
+static const struct liked equine[3] = { { ECHO_CLASS, IMPLICIT }, { CR_IMAGE, EXPLICIT }, { CR_IMAGE, IMPLICIT } };
+static const struct liked avian[1] = { { CR_IMAGE, IMPLICIT } };
+static uint8_t sites[STORES][3 * FEO_RECORD_LEN];
+static struct store stores[STORES] = {
+    { "STORE-EXOTIC", exotic, 2, sites[EXOTIC] },
+    { " STORE-EQUINE", equine, 3, sites[EQUINE] },
+    { "AVIAN", avian, 1, sites[AVIAN] }
+};
+static uint8_t titles[STORES * FEO_TITLE_LEN];
 
 /* What the peer's acceptance says of context 1. */
 static void hears(const struct line *l, size_t shown)
@@ -117,10 +125,13 @@ void act(struct line *l, const struct feo_answer *r)
     if (r->action == FEO_AE_3)
         hears(l, r->shown);
     if (r->action == FEO_AE_6 && l->a.state == FEO_STA_3)
-        answer_request(l, r->shown, (const uint8_t *)own, own_len, site, site_len);
+        answer_request(l, r->shown, titles, stores, STORES);
+    if (r->action == FEO_AE_7)
+        must(l->store != NULL, "the store that was called is known when the association stands");
     if (r->action == FEO_DT_2)
         for (at = FEO_HEADER_LEN; feo_pdv_at(l->gather, r->shown, at, &id, &control, &start, &length) == 0; at = start + length) {
             got.fragments += length;
+            got.filed[l->store - stores] += length;
             got.lasts += (control & FEO_PDV_LAST) != 0;
             got.sum = summed(got.sum, l->gather + start, length);
         }
@@ -181,7 +192,9 @@ static void talk(const struct bytes *bytes, struct peer peer, long us)
         close(ends[0]);
     ticking(us);
     l.fd = ends[1];
+    l.store = &stores[AVIAN]; /* the line was that store's before */
     serve(&l);
+    got.store = l.store;
     ticking(0);
     if (peer.end == CLOSES)
         return;
@@ -212,7 +225,9 @@ static void asks(const char *called, const uint8_t *command, size_t n, int conne
         close(l.fd);
         l.fd = -1;
     }
+    l.store = &stores[AVIAN];
     deliver(&l, called, "NIGHT-SCANNER   ", command, n);
+    must(l.store == NULL, "a line that asks is no store's");
     ticking(0);
     must(waitpid(child, &status, 0) == child && status == 0, "the peer is content");
 }
@@ -256,6 +271,7 @@ static void association(void)
 static void is_served(const char *how)
 {
     must(sees("AE-5 AE-6 AE-7 DT-2 DT-2 AR-2 AR-4 AR-5 ") && got.fragments == 5017 && comes_back(&back), how);
+    must(got.filed[EQUINE] == 5017 && got.store == &stores[EQUINE], how);
 }
 
 static void served(void)
@@ -329,7 +345,7 @@ static void answered(void)
     of_sheet(&pdu, 2, &answer);
     talk(&all, AT_ONCE, 0);
     must(sees("AE-5 AE-6 AE-7 AA-4 ") && comes_back(&pdu), "one context, refused");
-    site_len = FEO_RECORD_LEN - 1;
+    stores[EQUINE].n = 0;
     talk(&rq, AT_ONCE, 0);
     must(told("AE-5 AE-6 AA-1 AR-5 ", "feo_choose: bad contents. "), "with a bad sheet of the site it is aborted");
     request(&all, 1, "1.2.840.10008.3.1.1.2", ECHO_CLASS, IMPLICIT);
@@ -340,12 +356,121 @@ static void answered(void)
     memcpy(all.at + FEO_CALLED_AT, "STORE-EXOTICS   ", FEO_TITLE_LEN);
     talk(&all, AT_ONCE, 0);
     ten(&pdu, 3, 0, 1, 1, 7);
-    must(sees("AE-5 AE-6 AE-8 AR-5 ") && comes_back(&pdu), "another called title");
-    site_len = sizeof site;
-    own_len = 31;
+    must(sees("AE-5 AE-6 AE-8 AR-5 ") && comes_back(&pdu) && got.store == NULL, "another called title");
+    stores[EQUINE].n = 3;
+    titles[AVIAN * FEO_TITLE_LEN] = 0x5C;
     talk(&rq, AT_ONCE, 0);
-    own_len = 32;
-    must(told("AE-5 AE-6 AA-1 AR-5 ", "feo_title_known: bad contents. "), "where it cannot be answered it is aborted");
+    titles[AVIAN * FEO_TITLE_LEN] = 'A';
+    must(told("AE-5 AE-6 AA-1 AR-5 ", "feo_title_place: bad contents. "), "where it cannot be answered it is aborted");
+    must(got.store == NULL, "and no store was called");
+    association();
+}
+
+/* A request that calls this title, for both classes. */
+static void calls(struct bytes *bytes, const char *title)
+{
+    static struct bytes proposal;
+    proposal.n = 0;
+    add_record(&proposal, 1, 0, ECHO_CLASS, IMPLICIT);
+    add_record(&proposal, 3, 0, CR_IMAGE, IMPLICIT);
+    add_record(&proposal, 3, 0, CR_IMAGE, JPEG);
+    add_record(&proposal, 3, 0, CR_IMAGE, EXPLICIT);
+    of_sheet(bytes, 1, &proposal);
+    memcpy(bytes->at + FEO_CALLED_AT, title, FEO_TITLE_LEN);
+}
+
+/* The same, with data in context 3 and a release behind it. */
+static void calls_and_sends(struct bytes *bytes, const char *title, size_t n)
+{
+    calls(bytes, title);
+    data(&pdu, 3, 0, n);
+    add(bytes, pdu.at, pdu.n);
+    ten(&pdu, 5, 0, 0, 0, 0);
+    add(bytes, pdu.at, pdu.n);
+}
+
+/* What comes back to it: the answer by a store's sheet, then the release. */
+static void answers(struct bytes *bytes, const char *title, unsigned echo, const char *name)
+{
+    static struct bytes answer;
+    answer.n = 0;
+    add_record(&answer, 1, echo, "", echo == FEO_CONTEXT_ACCEPTED ? IMPLICIT : "");
+    add_record(&answer, 3, 0, "", name);
+    of_sheet(bytes, 2, &answer);
+    memcpy(bytes->at + FEO_CALLED_AT, title, FEO_TITLE_LEN);
+    ten(&pdu, 6, 0, 0, 0, 0);
+    add(bytes, pdu.at, pdu.n);
+}
+
+/* The store that is called answers by its own sheet and has the data, however its title is written. */
+static void called(void)
+{
+    static const struct {
+        const char *title;
+        size_t store;
+        unsigned echo;
+        const char *name;
+    } rows[] = {
+        { "STORE-EXOTIC    ", EXOTIC, FEO_CONTEXT_ACCEPTED, JPEG },
+        { "STORE-EQUINE    ", EQUINE, FEO_CONTEXT_ACCEPTED, EXPLICIT },
+        { "AVIAN           ", AVIAN, FEO_CONTEXT_ABSTRACT_NOT_SUPPORTED, IMPLICIT },
+        { "    STORE-EXOTIC", EXOTIC, FEO_CONTEXT_ACCEPTED, JPEG },
+        { "           AVIAN", AVIAN, FEO_CONTEXT_ABSTRACT_NOT_SUPPORTED, IMPLICIT },
+        { "  STORE-EQUINE  ", EQUINE, FEO_CONTEXT_ACCEPTED, EXPLICIT },
+        { "STORE-EXOTIC    ", EXOTIC, FEO_CONTEXT_ACCEPTED, JPEG }
+    };
+    static const char *const others[] = { "STORE           ", "STORE-EXOTI     ", "AVIAN 1         ", "avian           ", "STORE EQUINE    " };
+    size_t i, k;
+    for (i = 0; i < sizeof rows / sizeof *rows; i++) {
+        calls_and_sends(&all, rows[i].title, 100 + i);
+        answers(&back, rows[i].title, rows[i].echo, rows[i].name);
+        talk(&all, AT_ONCE, 0);
+        must(sees("AE-5 AE-6 AE-7 DT-2 AR-2 AR-4 AR-5 ") && comes_back(&back), "a store answers by its own sheet");
+        must(got.store == &stores[rows[i].store], "the line has the store that was called");
+        for (k = 0; k < STORES; k++)
+            must(got.filed[k] == (k == rows[i].store ? 100 + i : 0), "the data is in the store that was called, and in no other");
+    }
+    for (i = 0; i < sizeof others / sizeof *others; i++) {
+        calls_and_sends(&all, others[i], 100);
+        ten(&back, 3, 0, 1, 1, 7);
+        talk(&all, AT_ONCE, 0);
+        must(sees("AE-5 AE-6 AE-8 AA-6 AA-6 AR-5 ") && comes_back(&back), "a title that is none of ours is rejected");
+        must(got.store == NULL && got.fragments == 0, "and nothing is filed");
+    }
+    all.n = 0;
+    talk(&all, AT_ONCE, 0);
+    must(sees("AE-5 AA-5 ") && got.store == NULL, "without a request no store is called");
+    association();
+}
+
+/* Two lines at a time, for two stores: what comes on each is for its own. */
+static void two_lines(void)
+{
+    static const char *const names[2] = { "AVIAN           ", "STORE-EXOTIC    " };
+    static struct line lines[2];
+    int ends[2][2], i, k;
+    memset(&got, 0, sizeof got);
+    for (i = 0; i < 2; i++) {
+        must(socketpair(AF_UNIX, SOCK_STREAM, 0, ends[i]) == 0, "a pair of sockets");
+        lines[i].fd = ends[i][1];
+        feo_fresh(&lines[i].a);
+        tell(&lines[i], FEO_TRANSPORT_INDICATION);
+    }
+    for (i = 0; i < 2; i++) {
+        calls(&all, names[i]);
+        must(write(ends[i][0], all.at, all.n) == (ssize_t)all.n && step(&lines[i]), "a request");
+    }
+    for (k = 0; k < 3; k++)
+        for (i = 0; i < 2; i++) {
+            data(&pdu, 3, 0, (size_t)(i == 0 ? 1 : 1000));
+            must(write(ends[i][0], pdu.at, pdu.n) == (ssize_t)pdu.n && step(&lines[i]), "data");
+        }
+    must(sees("AE-5 AE-5 AE-6 AE-7 AE-6 AE-7 DT-2 DT-2 DT-2 DT-2 DT-2 DT-2 "), "two lines");
+    must(got.filed[AVIAN] == 3 && got.filed[EXOTIC] == 3000 && got.filed[EQUINE] == 0, "each line files in its own store");
+    for (i = 0; i < 2; i++) {
+        close(ends[i][0]);
+        close(ends[i][1]);
+    }
     association();
 }
 
@@ -354,9 +479,42 @@ static void site_written(void)
 {
     static const struct liked no_name = { ECHO_CLASS, "1.02" }, too_long = { SIXTY_FOUR "0", IMPLICIT };
     uint8_t one[FEO_RECORD_LEN];
-    must(write_site(site, liked, 3) == FEO_NOT_REFUSED, "the site's sheet");
+    must(write_site(sites[EQUINE], equine, 3) == FEO_NOT_REFUSED, "the site's sheet");
     must(write_site(one, &no_name, 1) == FEO_BAD_CONTENTS && write_site(one, &too_long, 1) == FEO_BAD_CONTENTS, "a name that is none");
-    must(write_site(one, liked, 0) == FEO_BAD_CONTENTS, "a sheet without a record");
+    must(write_site(one, equine, 0) == FEO_BAD_CONTENTS, "a sheet without a record");
+}
+
+/* So are the stores: up to 8, with a good sheet each, and titles that are found at their own place. */
+static void stores_written(void)
+{
+    static const char *const bad[] = { "", "   ", "SEVENTEEN LETTERS", "BACK\\SLASH", "TAB\t", "G", " G", "G               " };
+    static const char *const good[8] = { "A", " B", "C", "D E", "D  E", "d e", "OF SIXTEEN CHARS", "G" };
+    static uint8_t sheet[9][FEO_RECORD_LEN], own[9 * FEO_TITLE_LEN];
+    struct store some[9];
+    size_t i, k;
+    for (i = 0; i < 9; i++) {
+        some[i].title = i < 8 ? good[i] : "NINTH";
+        some[i].liked = equine;
+        some[i].n = 1;
+        some[i].site = sheet[i];
+    }
+    for (i = 0; i <= 8; i++)
+        must(write_stores(own, some, i) == FEO_NOT_REFUSED, "up to eight stores");
+    must(memcmp(own, "A                B              C               D E             ", 64) == 0, "their titles, one behind the other");
+    must(memcmp(sheet[0], sites[EQUINE], FEO_RECORD_LEN) == 0 && memcmp(sheet[7], sheet[0], FEO_RECORD_LEN) == 0, "and their sheets");
+    must(write_stores(own, some, 9) == FEO_BAD_CONTENTS, "nine stores");
+    for (i = 0; i < 7; i++) {
+        for (k = 0; k < sizeof bad / sizeof *bad; k++) {
+            some[i].title = bad[k];
+            must(write_stores(own, some, 8) == FEO_BAD_CONTENTS, "a title that is none, or there twice");
+        }
+        some[i].title = good[i];
+        some[i].n = 0;
+        must(write_stores(own, some, 8) == FEO_BAD_CONTENTS, "a store with a bad sheet");
+        some[i].n = 1;
+    }
+    must(write_stores(own, some, 8) == FEO_NOT_REFUSED, "eight stores again");
+    must(write_stores(titles, stores, STORES) == FEO_NOT_REFUSED, "our stores");
 }
 
 static uint8_t sleeps_at;
@@ -567,10 +725,13 @@ static void refusals(void)
 int main(void)
 {
     site_written();
+    stores_written();
     association();
     served();
     in_one_read();
     answered();
+    called();
+    two_lines();
     times();
     goes();
     requestor();
