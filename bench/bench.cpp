@@ -1,5 +1,5 @@
 // Feohanna measured in one process and on the same bytes: receiving against memcpy and a plain copy, the PDVs of a PDU against receiving it, an RQ read and written against the second program and
-// against DCMTK, its answers chosen against reading it.
+// against DCMTK, its answers chosen against reading it, its called title found among our own against the second program and against reading an RQ of one context.
 //     bench                     a line for each measurement: its group, what, against what, ns per call of both, their ratio
 //     bench WHAT WHO TIMES      runs one of them so often, for an instruction counter; a wrong WHAT lists them
 #include "feohanna.h"
@@ -220,6 +220,27 @@ static size_t choose(const Bytes &proposal, const Bytes &site, Bytes &answer)
     return accepted;
 }
 
+// ---- the title that it calls
+
+// Eight own titles, which differ in their last character alone.
+static Bytes own_titles()
+{
+    Bytes s;
+    for (char k = '1'; k <= '8'; k++) {
+        const std::string title = std::string("STORE-EQUINE-00") + k;
+        s.insert(s.end(), title.begin(), title.end());
+    }
+    return s;
+}
+
+// Its place among them, 8 where there is none.
+static size_t place(const Bytes &own, const Bytes &sought)
+{
+    uint8_t known, at;
+    must(feo_title_place(own.data(), own.size(), sought.data(), sought.size(), &known, &at) == 0, "the title check is refused");
+    return known ? at : 8;
+}
+
 // ---- the measurements
 
 static std::vector<Measured> all()
@@ -276,6 +297,15 @@ static std::vector<Measured> all()
         pdu->resize(request(*proposal, pdu->data(), pdu->size()));
         must(choose(*proposal, *site, *answer) == 128, "the answers are not chosen");
         m.push_back({ "choose", same ? "200 records, one abstract name" : "200 records, 200 abstract names", { { "feohanna", [=] { return choose(*proposal, *site, *answer); } }, { "reading", [=] { return records(*pdu, *room); } } } });
+    }
+    const char *const called[3][2] = { { "the first of 8", "STORE-EQUINE-001" }, { "the last of 8", "STORE-EQUINE-008" }, { "none of 8", "STORE-EQUINE-009" } };
+    const size_t places[3] = { 0, 7, 8 };
+    for (size_t k = 0; k < 3; k++) {
+        Bytes *own = new Bytes(own_titles()), *sought = new Bytes(bytes(called[k][1]), bytes(called[k][1]) + FEO_TITLE_LEN);
+        Bytes *pdu = new Bytes(FEO_BUFFER), *room = new Bytes(FEO_RECORD_LEN);
+        pdu->resize(request(sheet_of(1, 1), pdu->data(), pdu->size()));
+        must(place(*own, *sought) == places[k] && second_place(own->data(), own->size(), sought->data(), sought->size()) == places[k], "the title is not found at its place");
+        m.push_back({ "find", called[k][0], { { "feohanna", [=] { return place(*own, *sought); } }, { "second", [=] { return second_place(own->data(), own->size(), sought->data(), sought->size()); } }, { "reading", [=] { return records(*pdu, *room); } } } });
     }
     return m;
 }

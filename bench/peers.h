@@ -9,6 +9,7 @@ extern "C" {
 size_t second_read(const uint8_t *pdu, size_t pdu_len, const uint8_t *sheet, size_t sheet_len);
 size_t second_write(
     const uint8_t *titles, const uint8_t *application, size_t application_len, const uint8_t *sheet, size_t sheet_len);
+size_t second_place(const uint8_t *own, size_t own_len, const uint8_t *sought, size_t sought_len);
 }
 
 /* Parses an RQ into DCMTK's lists and frees them, as its caller does: the number of contexts. */

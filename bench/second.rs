@@ -1,4 +1,4 @@
-//! The second program's reader and writer of an RQ, for the measurements to call.
+//! The second program's reader and writer of an RQ, and its title check, for the measurements to call.
 
 #![allow(dead_code)]
 
@@ -41,5 +41,14 @@ pub unsafe extern "C" fn second_write(
     match write::rq(&titles[..16], &titles[16..], application, from_raw_parts(sheet, sheet_len)) {
         Ok(sent) => std::hint::black_box(sent).len(),
         Err(_) => 0,
+    }
+}
+
+/// The place of a title among our own, 8 where there is none, 9 where it is refused.
+#[no_mangle]
+pub unsafe extern "C" fn second_place(own: *const u8, own_len: usize, sought: *const u8, sought_len: usize) -> usize {
+    match names::title_place(from_raw_parts(own, own_len), from_raw_parts(sought, sought_len)) {
+        Ok(place) => place.unwrap_or(8),
+        Err(_) => 9,
     }
 }

@@ -18,6 +18,7 @@ GROUPS = {
     "read": "Judging and reading an A-ASSOCIATE-RQ",
     "write": "Writing it",
     "choose": "Choosing the answers to 128 contexts x 3",
+    "find": "Finding the called title among 8, against reading an RQ of 1 context x 1 too",
 }
 COLOURS = {"memcpy": "#4c78a8", "plain": "#9ecae9", "receiving": "#b279a2", "reading": "#f2cf5b", "second": "#72b7b2", "dcmtk": "#e45756"}
 NAMES = {"memcpy": "memcpy", "plain": f"a plain {MACHINE} copy", "receiving": "its receiving", "reading": "its reading", "second": "the second program", "dcmtk": "DCMTK"}

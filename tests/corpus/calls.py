@@ -7,6 +7,7 @@ import subprocess
 import sys
 
 from sheets import RECORD, answers_sent, choices, reads
+from titles import places
 
 HERE = os.path.dirname(os.path.abspath(__file__))
 KINDS = ["no valid PDU", "RQ", "AC", "RJ", "P-DATA-TF", "RELEASE-RQ", "RELEASE-RP", "ABORT"]
@@ -137,13 +138,15 @@ def main():
         out = sent + b"\x5a" * (16390 - len(sent))
         calls.append((what, f"2 {words(ECHOED)} 31 {words(sheet)} 16390", [str(refusal), str(len(sent)), str(digest(out))]))
     written = len(calls) - count - names - 2 * items - chosen
+    sought = [(what, f"T {words(own)} {words(title)}", answer) for what, own, title, answer in places()]
+    calls += sought
     lines = [call for _, call, _ in calls]
     answered = [answers([second, "answer"], lines), answers(replay, lines)]
     for program, got in zip(["the second program", "replay"], answered):
         if len(got) != len(lines):
             sys.exit(f"{program}: {len(got)} answers to {len(lines)} calls")
-    if not count or not names or not items or not chosen or not written:
-        sys.exit("there is no recorded stream, no name, no list of items, no choice or no answer sheet")
+    if not count or not names or not items or not chosen or not written or not sought:
+        sys.exit("there is no recorded stream, no name, no list of items, no choice, no answer sheet or no sought title")
     for (where, call, expected), theirs, ours in zip(calls, *answered):
         if len(ours.split()) < len(expected or []):
             sys.exit(f"{where}: {call[:200]}\n  answer: {ours}\n  expected {len(expected)} words")
@@ -153,7 +156,7 @@ def main():
             if wanted is not None and got != wanted:
                 sys.exit(f"{where}: {call[:200]}\n  answer: {ours}\n  expected: {' '.join(w or '*' for w in expected)}")
     kinds = ", ".join(f"{n} {kind}" for kind, n in seen.items() if n)
-    print(f"{kinds}; {count} calls on them, {names} names, {items} lists of items, {chosen} choices and {written} answer sheets answered alike and as expected")
+    print(f"{kinds}; {count} calls on them, {names} names, {items} lists of items, {chosen} choices, {written} answer sheets and {len(sought)} sought titles answered alike and as expected")
 
 
 main()
