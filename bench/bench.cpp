@@ -298,14 +298,16 @@ static std::vector<Measured> all()
         must(choose(*proposal, *site, *answer) == 128, "the answers are not chosen");
         m.push_back({ "choose", same ? "200 records, one abstract name" : "200 records, 200 abstract names", { { "feohanna", [=] { return choose(*proposal, *site, *answer); } }, { "reading", [=] { return records(*pdu, *room); } } } });
     }
-    const char *const called[3][2] = { { "the first of 8", "STORE-EQUINE-001" }, { "the last of 8", "STORE-EQUINE-008" }, { "none of 8", "STORE-EQUINE-009" } };
-    const size_t places[3] = { 0, 7, 8 };
-    for (size_t k = 0; k < 3; k++) {
-        Bytes *own = new Bytes(own_titles()), *sought = new Bytes(bytes(called[k][1]), bytes(called[k][1]) + FEO_TITLE_LEN);
+    const struct {
+        const char *what, *title;
+        size_t at;
+    } called[3] = { { "the first of 8", "STORE-EQUINE-001", 0 }, { "the last of 8", "STORE-EQUINE-008", 7 }, { "none of 8", "STORE-EQUINE-009", 8 } };
+    for (const auto &c : called) {
+        Bytes *own = new Bytes(own_titles()), *sought = new Bytes(bytes(c.title), bytes(c.title) + FEO_TITLE_LEN);
         Bytes *pdu = new Bytes(FEO_BUFFER), *room = new Bytes(FEO_RECORD_LEN);
         pdu->resize(request(sheet_of(1, 1), pdu->data(), pdu->size()));
-        must(place(*own, *sought) == places[k] && second_place(own->data(), own->size(), sought->data(), sought->size()) == places[k], "the title is not found at its place");
-        m.push_back({ "find", called[k][0], { { "feohanna", [=] { return place(*own, *sought); } }, { "second", [=] { return second_place(own->data(), own->size(), sought->data(), sought->size()); } }, { "reading", [=] { return records(*pdu, *room); } } } });
+        must(place(*own, *sought) == c.at && second_place(own->data(), own->size(), sought->data(), sought->size()) == c.at, "the title is not found at its place");
+        m.push_back({ "find", c.what, { { "feohanna", [=] { return place(*own, *sought); } }, { "second", [=] { return second_place(own->data(), own->size(), sought->data(), sought->size()); } }, { "reading", [=] { return records(*pdu, *room); } } } });
     }
     return m;
 }

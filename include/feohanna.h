@@ -439,8 +439,8 @@ static inline uint8_t feo_pdv_at(
 
 /*
  * Looks for the sought title, 16 bytes, among our own, 0 to 8 of 16 bytes each. Where it is one of them *known is 1, and *place,
- * 0 to 7, is that of the first that is equal; outer spaces do not count, case does. Where it is none, and where the call is refused,
- * both are 0: look at *known before *place, since 0 is the first title's place too.
+ * 0 to 7, is that of the first that is equal; outer spaces do not count, inner ones and case do. Where it is none, and where the
+ * call is refused, both are 0: look at *known before *place, since 0 is the first title's place too.
  *
  * Refused by 4 for a bad list (more than 8, a part of one, one that is no title) or a sought title of another length. The list is
  * tested whole before it is searched: a bad title refuses it also behind one that is equal. Of the sought title only the length is

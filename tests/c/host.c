@@ -23,6 +23,7 @@ static struct outcome {
     size_t actions;
     char taken[65]; /* at AE-3: the transfer syntax in which context 1 is taken; empty: refused */
     size_t filed[3]; /* bytes of data that came for each of our stores */
+    size_t for_us; /* and on lines that we asked for */
     const struct store *store; /* which one the line has at its end */
     struct bytes back;
 } got;
@@ -131,7 +132,7 @@ void act(struct line *l, const struct feo_answer *r)
     if (r->action == FEO_DT_2)
         for (at = FEO_HEADER_LEN; feo_pdv_at(l->gather, r->shown, at, &id, &control, &start, &length) == 0; at = start + length) {
             got.fragments += length;
-            got.filed[l->store - stores] += length;
+            *(l->store != NULL ? &got.filed[l->store - stores] : &got.for_us) += length;
             got.lasts += (control & FEO_PDV_LAST) != 0;
             got.sum = summed(got.sum, l->gather + start, length);
         }
@@ -513,6 +514,11 @@ static void stores_written(void)
         must(write_stores(own, some, 8) == FEO_BAD_CONTENTS, "a store with a bad sheet");
         some[i].n = 1;
     }
+    for (k = 0; k < 5; k++) {
+        some[7].title = bad[k];
+        must(write_stores(own, some, 8) == FEO_BAD_CONTENTS, "the last title is none");
+    }
+    some[7].title = good[7];
     must(write_stores(own, some, 8) == FEO_NOT_REFUSED, "eight stores again");
     must(write_stores(titles, stores, STORES) == FEO_NOT_REFUSED, "our stores");
 }
@@ -632,17 +638,24 @@ static void requestor(void)
     must(told("AE-1 AA-2 ", "feo_confirm: bad contents. "), "a title that may not be sent is told, and ends it");
 }
 
-/* A requestor whose peer has written this AC, takes no byte of data, and takes context 1 in this transfer syntax; empty: refuses it. */
-static void accepted_by(const struct bytes *ac, const char *name)
+/* A requestor whose peer has written an AC, perhaps more, and closes. */
+static void answered_by(const struct bytes *bytes)
 {
     static struct line l;
     int ends[2];
     memset(&got, 0, sizeof got);
-    must(socketpair(AF_UNIX, SOCK_STREAM, 0, ends) == 0 && write(ends[0], ac->at, ac->n) == (ssize_t)ac->n, "an AC is there");
-    must(shutdown(ends[0], SHUT_WR) == 0, "and nothing else");
+    must(socketpair(AF_UNIX, SOCK_STREAM, 0, ends) == 0 && write(ends[0], bytes->at, bytes->n) == (ssize_t)bytes->n, "an AC is there");
+    must(shutdown(ends[0], SHUT_WR) == 0, "and nothing behind");
     l.fd = ends[1];
+    l.store = &stores[AVIAN];
     deliver(&l, "STORE-EQUINE    ", "NIGHT-SCANNER   ", (const uint8_t *)"x", 1);
     close(ends[0]);
+}
+
+/* It takes no byte of data, and takes context 1 in this transfer syntax; empty: refuses it. */
+static void accepted_by(const struct bytes *ac, const char *name)
+{
+    answered_by(ac);
     must(told("AE-1 AE-2 AE-3 AA-1 AR-5 ", "feo_fragment_max: PDU too long. "), "no room for data is told, and ends it");
     must(strcmp(got.taken, name) == 0, "the acceptance says what is taken");
 }
@@ -664,6 +677,19 @@ static void acceptances(void)
         accepting(&pdu, 1, &contexts, 6);
         accepted_by(&pdu, "");
     }
+}
+
+/* It sends data: that is for us, and for none of our stores. */
+static void sends_data(void)
+{
+    static const size_t none[STORES];
+    static struct bytes bytes;
+    acceptance(&bytes, 1, FEO_CONTEXT_ACCEPTED, 0);
+    data(&pdu, 1, FEO_PDV_COMMAND | FEO_PDV_LAST, 100);
+    add(&bytes, pdu.at, pdu.n);
+    answered_by(&bytes);
+    must(sees("AE-1 AE-2 AE-3 DT-2 DT-1 AR-1 AA-4 "), "a requestor is sent data");
+    must(got.for_us == 100 && memcmp(got.filed, none, sizeof none) == 0, "which is for no store");
 }
 
 static void fails_at_once(void)
@@ -736,6 +762,7 @@ int main(void)
     goes();
     requestor();
     acceptances();
+    sends_data();
     fails_at_once();
     refusals();
     printf("the loop of docs/HOST.md serves an association, with signals, faults and refusals\n");

@@ -24,4 +24,5 @@ def places():
     for line in open(os.path.join(HERE, "places")):
         if not line.startswith("#"):
             name, own, sought, answer = line.rstrip("\n").split(" | ")
-            yield name, text(own), text(sought), answer.split()
+            refusal, known, place = answer.split()
+            yield name, text(own), text(sought), [refusal, known, place]

@@ -19,7 +19,7 @@ use Rattle.association.specs.Calls.{Call, receiveOf}
 pub data Question : Type 0 where
   -- a call of `receive` in a state, as the requestor or not, with nothing gathered, on a piece
   receive : ℕ → Bool → List ℕ → Question
-  -- which of our own titles a sought one is; whether bytes are a whole valid PDU; whether bytes are a name
+  -- which of our own titles, the first list, the sought one, the second, is; whether bytes are a whole valid PDU; whether bytes are a name
   place : List ℕ → List ℕ → Question
   pdu : List ℕ → Question
   name : List ℕ → Question

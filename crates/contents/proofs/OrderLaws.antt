@@ -9,7 +9,7 @@ use lib.ListN.{length, replicate}
 use lib.Dec.{leb, eqb}
 use borrow.Author.Tests.{le-leb, eqb-true, eqb-false, eq-eqb, ne-eqb}
 use Rattle.laws.specs.Lists.{all, among, sameBytes}
-use Rattle.laws.proofs.Booleans.{held, left-of, right-of, both-of}
+use Rattle.laws.proofs.Booleans.{held, not-held, left-of, right-of, both-of}
 use Rattle.laws.proofs.Same.{same-equal}
 use Rattle.names.specs.Name.{nameOk}
 use Rattle.items.specs.Items.{Walk, filled, bodies, types, only, goodBodies, holds}
@@ -18,10 +18,6 @@ use Rattle.items.proofs.RuleLaws.{stateAfter, keeps-is}
 use Rattle.items.proofs.HoldLaws.{times, times-types, times-only, times-same}
 use Rattle.contents.specs.Contents.{topKnown, contextKnown, named, contextOrder, subsOk, good50H, contextGood, topGood, topOrder, topOk}
 use Rattle.contents.specs.Private.Order.{wrong, next, inOrder, subGood, subRule, topRule}
-
-over : (b : Bool) → (b ≡ true → ⊥) → b ≡ false
-over true n = absurd (n refl)
-over false n = refl
 
 -- the order told apart, and put as the definitions have it
 gather : (n f s g : Bool) → (f && ((n && s) && g)) ≡ (n && (f && (s && g)))
@@ -59,7 +55,7 @@ module _ (m : ℕ) (e : List ℕ) where
         go : (n : ℕ) → times m ts ≡ n → sameBytes (t ∷ ts) (replicate n m ++ e) ≡ sameBytes (t ∷ ts) e
         go zero q = refl
         go (suc n) q =
-            rw h (sym (over (sameBytes (t ∷ ts) e) (λ s.
+            rw h (sym (not-held (sameBytes (t ∷ ts) e) (λ s.
             let w : times m (t ∷ ts) ≡ 0 = ap (times m) (same-equal (t ∷ ts) e (held (sameBytes (t ∷ ts) e) s)) ∙ z in
             let v : times m (t ∷ ts) ≡ suc n = rw h q in
             omega arith)))
@@ -214,7 +210,7 @@ module _ (k : ℕ) where
 few : (k : ℕ) (ts : List ℕ) → (times k (topOrder k (times k ts)) ≡ times k ts → ⊥) → sameBytes ts (topOrder k (times k ts)) ≡ false
 few k ts n =
     let o : List ℕ = topOrder k (times k ts) in
-    over (sameBytes ts o) (λ e. n (sym (ap (times k) (same-equal ts o (held (sameBytes ts o) e)))))
+    not-held (sameBytes ts o) (λ e. n (sym (ap (times k) (same-equal ts o (held (sameBytes ts o) e)))))
 
 few-10 : (ts : List ℕ) → sameBytes ts (topOrder 0x10 (times 0x10 ts)) ≡ false
 unfolding times
@@ -228,7 +224,7 @@ few-50 ts = few 0x50 ts (λ e. let n = times-same 0x50 (times 0x50 ts) (0x50 ∷
 never : (k : ℕ) (in? : ℕ → Bool) → in? 3 ≡ false → ((st t : ℕ) → topType k t ≡ true → in? st ≡ true → in? (led (topGood k) 0x10 k 0x50 3 st t) ≡ true)
     → (ts : List ℕ) (st : ℕ) → all (topType k) ts ≡ true → in? st ≡ true → eqb (stateAfter (topRule k) st ts) 3 ≡ false
 unfolding stateAfter
-never k in? n f [] st h i = over (eqb st 3) (λ e. held false (sym n ∙ (ap in? (sym (eqb-true st 3 e)) ∙ i)))
+never k in? n f [] st h i = not-held (eqb st 3) (λ e. held false (sym n ∙ (ap in? (sym (eqb-true st 3 e)) ∙ i)))
 never k in? n f (t ∷ ts) st h i =
     let g : topType k t ≡ true = left-of _ _ h in
     rw (next-known (topGood k) 0x10 k 0x50 3 st t g) (never k in? n f ts (led (topGood k) 0x10 k 0x50 3 st t) (right-of (topType k t) _ h) (f st t g i))

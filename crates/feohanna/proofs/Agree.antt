@@ -86,4 +86,4 @@ feo-raw-choose-agrees κs args a b x y p q = (ap (λ c. c .refusal) (agree (p .a
 
 pub feo-raw-title-place-agrees : AgreesLent {L = ℕ × ℕ} 4 title-place.Kinds.ps title-place.Kinds.r title-place.Reads.Post
     (λ κs x. (now (x .1 .1 .0), now (x .1 .1 .1 .0)))
-feo-raw-title-place-agrees κs args a b x y p q = (agree (p .refused) (q .refused), λ i. (agree (p .answer) (q .answer) i, agree (p .place) (q .place) i))
+feo-raw-title-place-agrees κs args a b x y p q = (agree (p .refused) (q .refused), λ i. (agree (p .yes) (q .yes) i, agree (p .place) (q .place) i))

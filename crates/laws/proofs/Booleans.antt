@@ -1,7 +1,7 @@
--- What a conjunction that holds tells of its parts, and one over a list of what is made of its elements.
+-- What a test that holds or does not tells, a conjunction and a disjunction of their parts, and a conjunction over a list of what is made of its elements.
 -- Assumes nothing.
-use mathlib.Core.Path.{_≡_, refl}
-use mathlib.Core.Bool.{Bool, true, false, _&&_}
+use mathlib.Core.Path.{_≡_, refl, sym, _∙_}
+use mathlib.Core.Bool.{Bool, true, false, _&&_, _||_, or-true}
 use mathlib.Core.List.{List, [], _∷_, map}
 use lib.Dec.{T}
 use Rattle.laws.specs.Lists.{all}
@@ -14,6 +14,11 @@ holds false t = absurd t
 pub held : (b : Bool) → b ≡ true → T b
 held b e = rw e tt
 
+-- one that cannot hold
+pub not-held : (b : Bool) → (b ≡ true → ⊥) → b ≡ false
+not-held true n = absurd (n refl)
+not-held false n = refl
+
 pub left-of : (a b : Bool) → (a && b) ≡ true → a ≡ true
 left-of true b e = refl
 left-of false b e = e
@@ -24,6 +29,13 @@ right-of false b e = absurd (held false e)
 
 pub both-of : (a b : Bool) → a ≡ true → b ≡ true → (a && b) ≡ true
 both-of a b p q = rw (p, q)
+
+pub or-left : (a b : Bool) → (a || b) ≡ false → a ≡ false
+or-left true b e = e
+or-left false b e = refl
+
+pub or-right : (a b : Bool) → (a || b) ≡ false → b ≡ false
+or-right a b e = not-held b (λ q. held false (sym e ∙ (rw q (or-true a))))
 
 pub T-left : (a b : Bool) → T (a && b) → T a
 T-left true b t = tt

@@ -8,33 +8,10 @@ use mathlib.Core.Bool.{Bool, true, false, cond, _||_}
 use mathlib.Core.List.{List, [], _∷_}
 use lib.ListN.{length, getD}
 use Rattle.laws.specs.Lists.{any, firstPlace}
-use Rattle.laws.proofs.Booleans.{held}
+use Rattle.laws.proofs.Booleans.{held, not-held, or-left, or-right}
 
--- past the end stands d
-module _ {A : Type 0} (p : A → Bool) (d : A) where
-  -- ---- none
-  pub none-at : (xs : List A) → any p xs ≡ false → (k : ℕ) → k < length xs → p (getD xs k d) ≡ false
-  none-at [] e k h = absurd (omega arith)
-  none-at (x ∷ xs) e zero h = or-left (p x) (any p xs) e
-    where
-      or-left : (a b : Bool) → (a || b) ≡ false → a ≡ false
-      or-left true b q = absurd (held false (sym q))
-      or-left false b q = refl
-  none-at (x ∷ xs) e (suc k) h = none-at xs (or-right (p x) (any p xs) e) k (omega arith)
-    where
-      or-right : (a b : Bool) → (a || b) ≡ false → b ≡ false
-      or-right true b q = absurd (held false (sym q))
-      or-right false b q = q
-
-  -- ---- some
-  pub any-at : (xs : List A) (k : ℕ) → k < length xs → p (getD xs k d) ≡ true → any p xs ≡ true
-  any-at xs k h e = go (any p xs) refl
-    where
-      go : (b : Bool) → any p xs ≡ b → b ≡ true
-      go true q = refl
-      go false q = absurd (held false (sym (none-at xs q k h) ∙ e))
-
-  -- ---- the first: it stands in the list just where there is one, it passes, and none before it does
+-- ---- the first stands in the list just where there is one
+module _ {A : Type 0} (p : A → Bool) where
   pub first-there : (xs : List A) → any p xs ≡ true → firstPlace p xs < length xs
   first-there [] e = absurd (held false e)
   first-there (x ∷ xs) e = go (p x) e (first-there xs)
@@ -43,6 +20,18 @@ module _ {A : Type 0} (p : A → Bool) (d : A) where
       go true q f = omega arith
       go false q f = let t = f q in omega arith
 
+  pub first-none : (xs : List A) → length xs ≤ firstPlace p xs → any p xs ≡ false
+  first-none xs h = not-held (any p xs) (λ e. let t = first-there xs e in omega arith)
+
+-- past the end stands d
+module _ {A : Type 0} (p : A → Bool) (d : A) where
+  -- ---- none
+  pub none-at : (xs : List A) → any p xs ≡ false → (k : ℕ) → k < length xs → p (getD xs k d) ≡ false
+  none-at [] e k h = absurd (omega arith)
+  none-at (x ∷ xs) e zero h = or-left (p x) (any p xs) e
+  none-at (x ∷ xs) e (suc k) h = none-at xs (or-right (p x) (any p xs) e) k (omega arith)
+
+  -- ---- the first: it passes, and none before it does
   pub first-passes : (xs : List A) → firstPlace p xs < length xs → p (getD xs (firstPlace p xs) d) ≡ true
   first-passes [] h = absurd (omega arith)
   first-passes (x ∷ xs) h = go (p x) refl h (first-passes xs)
@@ -60,19 +49,6 @@ module _ {A : Type 0} (p : A → Bool) (d : A) where
       go false q zero t f = q
       go false q (suc k) t f = f k (omega arith)
 
-  pub some-at : (xs : List A) → any p xs ≡ true → (k : ℕ) × ((k < length xs) × (p (getD xs k d) ≡ true))
-  some-at xs e = let h = first-there xs e in (firstPlace p xs, (h, first-passes xs h))
-
-  pub first-some : (xs : List A) → firstPlace p xs < length xs → any p xs ≡ true
-  first-some xs h = any-at xs (firstPlace p xs) h (first-passes xs h)
-
-  pub first-none : (xs : List A) → length xs ≤ firstPlace p xs → any p xs ≡ false
-  first-none xs h = go (any p xs) refl
-    where
-      go : (b : Bool) → any p xs ≡ b → b ≡ false
-      go true q = let t = first-there xs q in absurd (omega arith)
-      go false q = refl
-
   -- and it is the only such place
   pub first-only : (xs : List A) (k : ℕ) → k < length xs → p (getD xs k d) ≡ true → ((j : ℕ) → j < k → p (getD xs j d) ≡ false) → firstPlace p xs ≡ k
   first-only xs k h e n = go (decLt (firstPlace p xs) k) (decLt k (firstPlace p xs))
@@ -81,3 +57,17 @@ module _ {A : Type 0} (p : A → Bool) (d : A) where
       go (yes l) g = absurd (held false (sym (n (firstPlace p xs) l) ∙ first-passes xs (omega arith)))
       go (no l) (yes g) = absurd (held false (sym (none-before xs k g) ∙ e))
       go (no l) (no g) = omega arith
+
+  -- ---- some one
+  pub some-at : (xs : List A) → any p xs ≡ true → (k : ℕ) × ((k < length xs) × (p (getD xs k d) ≡ true))
+  some-at xs e = let h = first-there p xs e in (firstPlace p xs, (h, first-passes xs h))
+
+  pub any-at : (xs : List A) (k : ℕ) → k < length xs → p (getD xs k d) ≡ true → any p xs ≡ true
+  any-at xs k h e = go (any p xs) refl
+    where
+      go : (b : Bool) → any p xs ≡ b → b ≡ true
+      go true q = refl
+      go false q = absurd (held false (sym (none-at xs q k h) ∙ e))
+
+  pub first-some : (xs : List A) → firstPlace p xs < length xs → any p xs ≡ true
+  first-some xs h = any-at xs (firstPlace p xs) h (first-passes xs h)

@@ -1,4 +1,4 @@
--- Definitions on lists that the rules of document 01 are written with: tests, and lists cut and joined.
+-- Definitions on lists that the documents' rules are written with: tests, and lists cut and joined.
 use mathlib.Core.Bool.{Bool, true, false, not, cond, _&&_, _||_}
 use mathlib.Core.List.{List, [], _∷_, _++_}
 use Prim.Native.Nat.{ℕ, zero, suc}

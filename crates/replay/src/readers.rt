@@ -101,7 +101,7 @@ pub(crate) fn pdv_at(line: &[u8], w: &Words) {
     );
 }
 
-fn place_found(refusal: u8, known: u64, place: u64) {
+fn print_place(refusal: u8, known: u64, place: u64) {
     print(&[refusal as u64, known, place]);
 }
 
@@ -109,9 +109,9 @@ fn place_found(refusal: u8, known: u64, place: u64) {
 pub(crate) fn title_place(line: &[u8], w: &Words) {
     let found = titles::title_place(bytes(line, w, FIRST), bytes(line, w, SECOND));
     match found {
-        Place::At(k) => place_found(numbers::NOT_REFUSED, 1, k as u64),
-        Place::None => place_found(numbers::NOT_REFUSED, 0, 0),
-        Place::Refused => place_found(numbers::BAD_CONTENTS, 0, 0),
+        Place::At(k) => print_place(numbers::NOT_REFUSED, 1, k as u64),
+        Place::None => print_place(numbers::NOT_REFUSED, 0, 0),
+        Place::Refused => print_place(numbers::BAD_CONTENTS, 0, 0),
     }
 }
 

@@ -13,4 +13,4 @@ pub titles-equal-agrees : Agrees 2 titles-equal.Kinds.ps titles-equal.Kinds.r ti
 titles-equal-agrees κs args a b x y p q = agree p q
 
 pub title-place-agrees : Agrees 2 title-place.Kinds.ps title-place.Kinds.r title-place.Reads.Post
-title-place-agrees κs args a b x y p q = same-place a b (agree (p .refused) (q .refused)) (agree (p .answer) (q .answer)) (agree (p .place) (q .place))
+title-place-agrees κs args a b x y p q = same-place a b (agree (p .refused) (q .refused)) (agree (p .yes) (q .yes)) (agree (p .place) (q .place))

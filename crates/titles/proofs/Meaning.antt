@@ -10,15 +10,15 @@ use mathlib.Core.List.{List, []}
 use lib.Dec.{T, eqb, leb}
 use lib.ListN.{length, getD}
 use borrow.Author.Tests.{eqb-true, leb-true, not-false}
-use Rattle.laws.proofs.Refusals.{not-due}
-use Rattle.laws.specs.Lists.{all, any, firstPlace}
-use Rattle.laws.proofs.Booleans.{held, holds, left-of, right-of, both-of}
-use Rattle.laws.proofs.Found.{none-at, any-at, first-there, first-passes, none-before, first-only}
+use Rattle.laws.specs.Lists.{any, firstPlace}
+use Rattle.laws.proofs.Booleans.{held, holds, not-held, left-of, right-of}
+use Rattle.laws.proofs.Found.{any-at, first-there, first-passes, none-before, first-only}
 use Rattle.laws.proofs.Records.{records-count, records-at}
+use Rattle.laws.proofs.Refusals.{not-due}
 use Rattle.laws.proofs.Same.{same-means}
-use Rattle.titles.specs.Title.{titleOk, titlesEqual, trim}
+use Rattle.titles.specs.Title.{titlesEqual, trim}
 use Rattle.titles.specs.Own.{titles, listOk, titleRefusal, known, titlePlace, Checked, refusal, knownAs, placeAs}
-use Rattle.titles.specs.Meaning.{EqualAt, FirstAt, NoneEqual, Tells}
+use Rattle.titles.specs.Meaning.{EqualAt, FirstAt, NoneEqual, Tells, TellsBy}
 use Rattle.titles.specs.declared.own.Place.{Place}
 use Rattle.titles.specs.declared.own.Place.the-variants.{At, None, Refused}
 
@@ -53,16 +53,12 @@ module _ (own sought : List ℕ) where
   equal-back k q = ap test (records-at 16 (length own / 16) k own (q .there)) ∙ holds _ (titles-equal-means sought _ .1 (q .same))
 
   unequal : (k : ℕ) → k < length (titles own) → (EqualAt own sought k → ⊥) → passes k ≡ false
-  unequal k h n = go (passes k) refl
-    where
-      go : (b : Bool) → passes k ≡ b → b ≡ false
-      go true e = absurd (n (equal-so k h e))
-      go false e = refl
+  unequal k h n = not-held (passes k) (λ e. n (equal-so k h e))
 
   -- ---- there is a first, and one only; or there is none
   first-so : any test (titles own) ≡ true → FirstAt own sought (firstPlace test (titles own))
   first-so e =
-      let h = first-there test [] (titles own) e in
+      let h = first-there test (titles own) e in
       record {
         equal = equal-so _ h (first-passes test [] (titles own) h);
         none-lower = λ j l q. held false (sym (none-before test [] (titles own) j l) ∙ equal-back j q);
@@ -79,21 +75,10 @@ module _ (own sought : List ℕ) where
   none-so : any test (titles own) ≡ false → NoneEqual own sought
   none-so e k q = held false (sym e ∙ some-so k q)
 
-  none-back : NoneEqual own sought → any test (titles own) ≡ false
-  none-back n = go (any test (titles own)) refl
-    where
-      go : (b : Bool) → any test (titles own) ≡ b → b ≡ false
-      go true e = absurd (n _ (first-so e .equal))
-      go false e = refl
-
   -- ---- what is known of an answer
   known-so : known own sought ≡ true → Taken own sought × (any test (titles own) ≡ true)
   unfolding known
   known-so e = (eqb-true _ _ (left-of _ _ e), right-of (eqb (titleRefusal own sought) 0) _ e)
-
-  known-back : Taken own sought → any test (titles own) ≡ true → known own sought ≡ true
-  unfolding known
-  known-back t e = rw (t, e)
 
   -- a list that is taken has at most 8 titles
   most : Taken own sought → length own / 16 ≤ 8
@@ -102,9 +87,9 @@ module _ (own sought : List ℕ) where
       let g : listOk own ≡ true = not-false (listOk own) (not-due (not (listOk own)) 4 _ (λ e. absurd (omega arith)) t .0) in
       leb-true _ _ (right-of (eqb (length own % 16) 0) _ (left-of (eqb (length own % 16) 0 && leb (length own / 16) 8) _ g))
 
-  known-other : known own sought ≡ false → Taken own sought → any test (titles own) ≡ false
+  unknown-so : known own sought ≡ false → Taken own sought → any test (titles own) ≡ false
   unfolding known
-  known-other e t = sym (rw t) ∙ e
+  unknown-so e t = sym (rw t) ∙ e
 
 -- from the number that is told
 is-one : (b : Bool) → _≡_ {A = ℕ} 1 (cond b 1 0) → b ≡ true
@@ -118,7 +103,7 @@ is-zero false e = refl
 pub place-tells : (own sought : List ℕ) (a : Place) → Checked own sought (refusal a) (knownAs a) (placeAs a) → Tells own sought a
 unfolding titlePlace
 place-tells own sought (At k) c =
-    let y = is-one (known own sought) (c .answer) in
+    let y = is-one (known own sought) (c .yes) in
     let s = known-so own sought y in
     let e : k ≡ firstPlace (titlesEqual sought) (titles own) = c .place ∙ rw y in
     let f : FirstAt own sought k = rw e (first-so own sought (s .1)) in
@@ -133,13 +118,13 @@ place-tells own sought (At k) c =
     }
 place-tells own sought None c =
     let t : Taken own sought = sym (c .refused) in
-    let n = none-so own sought (known-other own sought (is-zero (known own sought) (c .answer)) t) in
+    let n = none-so own sought (unknown-so own sought (is-zero (known own sought) (c .yes)) t) in
     record {
       refused = (λ q. absurd (omega (arith, ap refusal q)), λ q. absurd (omega (arith, c .refused)));
       none = (λ q. (t, n), λ q. refl);
       at = λ j. (λ q. absurd (omega (arith, ap knownAs q)), λ q. absurd (n j (q .1 .equal)));
       low = λ j q. absurd (omega (arith, ap knownAs q));
-      some-place = (λ q. absurd (held false (sym (is-zero (known own sought) (c .answer)) ∙ q)), λ q. absurd (omega (arith, ap knownAs (q .1))));
+      some-place = (λ q. absurd (held false (sym (is-zero (known own sought) (c .yes)) ∙ q)), λ q. absurd (omega (arith, ap knownAs (q .1))));
     }
 place-tells own sought Refused c =
     record {
@@ -150,7 +135,7 @@ place-tells own sought Refused c =
       some-place = (λ q. absurd (omega (arith, c .refused, known-so own sought q .0)), λ q. absurd (omega (arith, ap refusal (q .1))));
     }
 
--- ---- and so do any three numbers that the contract permits, as C is handed them: they are those of one case
+-- ---- and so do any three numbers that the contract permits
 refused-or-not : (own sought : List ℕ) → Taken own sought ⊎ (titleRefusal own sought ≡ 4)
 unfolding titleRefusal
 refused-or-not own sought = go (not (listOk own)) (not (eqb (length sought) 16))
@@ -161,14 +146,21 @@ refused-or-not own sought = go (not (listOk own)) (not (eqb (length sought) 16))
     go false false = inl refl
 
 module _ (own sought : List ℕ) (r k p : ℕ) (c : Checked own sought r k p) where
-  one-case : (a : Place) → r ≡ refusal a → k ≡ knownAs a → p ≡ placeAs a → (a : Place) × ((r ≡ refusal a) × ((k ≡ knownAs a) × ((p ≡ placeAs a) × Tells own sought a)))
-  one-case a x y z = (a, (x, (y, (z, place-tells own sought a (record { refused = sym x ∙ c .refused; answer = sym y ∙ c .answer; place = sym z ∙ c .place })))))
+  of-case : (a : Place) → r ≡ refusal a → k ≡ knownAs a → p ≡ placeAs a → TellsBy own sought r k p
+  of-case a x y z =
+      record {
+        case = a;
+        by-refusal = x;
+        by-known = y;
+        by-place = z;
+        tells = place-tells own sought a (record { refused = sym x ∙ c .refused; yes = sym y ∙ c .yes; place = sym z ∙ c .place });
+      }
 
-  pub numbers-tell : (a : Place) × ((r ≡ refusal a) × ((k ≡ knownAs a) × ((p ≡ placeAs a) × Tells own sought a)))
+  pub numbers-tell : TellsBy own sought r k p
   unfolding titlePlace
   numbers-tell = go (known own sought) refl (refused-or-not own sought)
     where
-      go : (b : Bool) → known own sought ≡ b → Taken own sought ⊎ (titleRefusal own sought ≡ 4) → (a : Place) × ((r ≡ refusal a) × ((k ≡ knownAs a) × ((p ≡ placeAs a) × Tells own sought a)))
-      go true e w = one-case (At p) (c .refused ∙ known-so own sought e .0) (c .answer ∙ rw e) refl
-      go false e (inl w) = one-case None (c .refused ∙ w) (c .answer ∙ rw e) (c .place ∙ rw e)
-      go false e (inr w) = one-case Refused (c .refused ∙ w) (c .answer ∙ rw e) (c .place ∙ rw e)
+      go : (b : Bool) → known own sought ≡ b → Taken own sought ⊎ (titleRefusal own sought ≡ 4) → TellsBy own sought r k p
+      go true e w = of-case (At p) (c .refused ∙ known-so own sought e .0) (c .yes ∙ rw e) refl
+      go false e (inl w) = of-case None (c .refused ∙ w) (c .yes ∙ rw e) (c .place ∙ rw e)
+      go false e (inr w) = of-case Refused (c .refused ∙ w) (c .yes ∙ rw e) (c .place ∙ rw e)

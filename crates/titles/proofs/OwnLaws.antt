@@ -17,13 +17,9 @@ use Rattle.titles.specs.Own.{titles, listOk, titleRefusal, known, titleP
 use Rattle.titles.specs.declared.own.Place.{Place}
 use Rattle.titles.specs.declared.own.Place.the-variants.{At, None, Refused}
 
--- ---- all of them pass p. b is what the code finds at the j-th
-module _ (p : List ℕ → Bool) (l : List ℕ) where
-  pub all-holds : all p (records 16 (length l / 16 - 0) l) ≡ all p (titles l)
-  all-holds = rw (sub-zero (length l / 16))
-
-  pub place-holds : 0 + firstPlace p (records 16 (length l / 16 - 0) l) ≡ firstPlace p (titles l)
-  place-holds = rw (sub-zero (length l / 16), zero-add (firstPlace p (titles l)))
+-- ---- whether all are good. b is what the code finds at the j-th
+pub all-holds : (p : List ℕ → Bool) (l : List ℕ) → all p (records 16 (length l / 16 - 0) l) ≡ all p (titles l)
+all-holds p l = rw (sub-zero (length l / 16))
 
 pub list-odd : (l : List ℕ) → (length l % 16 ≡ 0 → ⊥) → false ≡ listOk l
 unfolding listOk
@@ -49,7 +45,10 @@ module _ (l : List ℕ) (n j : ℕ) (v : all titleOk (records 16 (n - j) (drop (
 
 pub ruleset list-laws = (needs, all-holds, list-odd, list-long, list-next, list-stop, list-end)
 
--- k of them are passed, and the first of the rest that passes the test is the first of all
+-- ---- which is the first: none of the j before it passes p, and so it is the first of the rest
+pub place-holds : (p : List ℕ → Bool) (l : List ℕ) → 0 + firstPlace p (records 16 (length l / 16 - 0) l) ≡ firstPlace p (titles l)
+place-holds p l = rw (sub-zero (length l / 16), zero-add (firstPlace p (titles l)))
+
 module _ (p : List ℕ → Bool) (l : List ℕ) (n j : ℕ) (v : j + firstPlace p (records 16 (n - j) (drop (j * 16) l)) ≡ firstPlace p (titles l)) where
   pub place-next : (b : Bool) → j < n → b ≡ p (take (j * 16 + 16 - j * 16) (drop (j * 16) l)) → b ≡ false → j + 1 + firstPlace p (records 16 (n - (j + 1)) (drop ((j + 1) * 16) l)) ≡ firstPlace p (titles l)
   place-next b h e t =
@@ -67,7 +66,7 @@ pub ruleset first-laws = (needs, place-holds, place-next, place-stop, place-end)
 -- ---- the answer
 refused-so : (l t : List ℕ) → titleRefusal l t ≡ 4 → Checked l t 4 0 0
 unfolding known titlePlace
-refused-so l t e = record { refused = sym e; answer = simp e; place = simp e }
+refused-so l t e = record { refused = sym e; yes = simp e; place = simp e }
 
 either : (b : Bool) → _≡_ {A = ℕ} (cond b 4 4) 4
 either true = refl
@@ -82,17 +81,17 @@ unfolding titleRefusal
 place-bad l t b e f = refused-so l t (simp (sym e ∙ not-true b f))
 
 module _ (l t : List ℕ) (b : Bool) (k : ℕ) (e : b ≡ listOk l) (f : not b ≡ false) (g : k ≡ firstPlace (titlesEqual t) (titles l)) (h : length t ≡ 16) where
-  none : titleRefusal l t ≡ 0
+  not-refused : titleRefusal l t ≡ 0
   unfolding titleRefusal
-  none = simp (eq-eqb _ _ h, sym e ∙ not-false b f)
+  not-refused = simp (eq-eqb _ _ h, sym e ∙ not-false b f)
 
   pub place-found : k < length l / 16 → Checked l t 0 1 k
   unfolding known titlePlace
-  place-found q = let y = first-some (titlesEqual t) [] (titles l) (rw (← g, records-count 16 (length l / 16) l) q) in record { refused = sym none; answer = simp (none, y); place = simp (none, y) g }
+  place-found q = let y = first-some (titlesEqual t) [] (titles l) (rw (← g, records-count 16 (length l / 16) l) q) in record { refused = sym not-refused; yes = simp (not-refused, y); place = simp (not-refused, y) g }
 
   pub place-none : length l / 16 ≤ k → Checked l t 0 0 0
   unfolding known titlePlace
-  place-none q = let y = first-none (titlesEqual t) [] (titles l) (rw (← g, records-count 16 (length l / 16) l) q) in record { refused = sym none; answer = simp (none, y); place = simp (none, y) }
+  place-none q = let y = first-none (titlesEqual t) (titles l) (rw (← g, records-count 16 (length l / 16) l) q) in record { refused = sym not-refused; yes = simp (not-refused, y); place = simp (not-refused, y) }
 
 pub ruleset place-laws = (needs, place-other, place-bad, place-found, place-none)
 

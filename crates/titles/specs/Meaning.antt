@@ -8,7 +8,7 @@ use lib.ListN.{length, take, drop}
 use Rattle.numbers.specs.Lengths.{TITLE}
 use Rattle.numbers.specs.Refusals.{NOT-REFUSED, BAD-CONTENTS}
 use Rattle.titles.specs.Title.{trim}
-use Rattle.titles.specs.Own.{titleRefusal, known}
+use Rattle.titles.specs.Own.{titleRefusal, known, refusal, knownAs, placeAs}
 use Rattle.titles.specs.declared.own.Place.{Place}
 use Rattle.titles.specs.declared.own.Place.the-variants.{At, None, Refused}
 
@@ -31,5 +31,13 @@ pub record Tells (own sought : List ℕ) (a : Place) : Type 0 where
   pub none : (a ≡ None) ↔ ((titleRefusal own sought ≡ NOT-REFUSED) × NoneEqual own sought)
   pub at : (k : ℕ) → (a ≡ At k) ↔ ((titleRefusal own sought ≡ NOT-REFUSED) × FirstAt own sought k)
   pub low : (k : ℕ) → a ≡ At k → k < 8
-  -- the yes of document 01
+  -- the old yes
   pub some-place : (known own sought ≡ true) ↔ ((k : ℕ) × (a ≡ At k))
+
+-- the same of an answer in numbers, as C is handed it: they are those of one case
+pub record TellsBy (own sought : List ℕ) (r k p : ℕ) : Type 0 where
+  pub case : Place
+  pub by-refusal : r ≡ refusal case
+  pub by-known : k ≡ knownAs case
+  pub by-place : p ≡ placeAs case
+  pub tells : Tells own sought case

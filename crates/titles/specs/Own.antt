@@ -24,7 +24,7 @@ listOk l = eqb (length l % TITLE) 0 && leb (length l / TITLE) 8 && all titleOk (
 unfoldable pub titleRefusal : List ℕ → List ℕ → ℕ
 titleRefusal own sought = firstDue ((not (listOk own), BAD-CONTENTS) ∷ (not (eqb (length sought) TITLE), BAD-CONTENTS) ∷ [])
 
--- the yes of document 01: nothing is refused, and one of our own titles is equal to the sought one
+-- the old yes, which the check answered before E3: nothing is refused, and one of our own titles is equal to the sought one
 unfoldable pub known : List ℕ → List ℕ → Bool
 known own sought = eqb (titleRefusal own sought) NOT-REFUSED && any (titlesEqual sought) (titles own)
 
@@ -32,14 +32,13 @@ known own sought = eqb (titleRefusal own sought) NOT-REFUSED && any (titlesEqual
 unfoldable pub titlePlace : List ℕ → List ℕ → ℕ
 titlePlace own sought = cond (known own sought) (firstPlace (titlesEqual sought) (titles own)) 0
 
--- an answer in the paper's numbers: the refusal, 0 for none; 1 where the title is known, else 0; the place
+-- an answer in numbers: the refusal, 0 for none; 1 where the title is known, else 0; the place
 pub record Checked (own sought : List ℕ) (r k p : ℕ) : Type 0 where
   pub refused : r ≡ titleRefusal own sought
-  pub answer : k ≡ cond (known own sought) 1 0
+  pub yes : k ≡ cond (known own sought) 1 0
   pub place : p ≡ titlePlace own sought
 
 -- ---- the three numbers of each case
-
 abbrev pub refusal : Place → ℕ
 refusal (At k) = NOT-REFUSED
 refusal None = NOT-REFUSED

@@ -1,4 +1,4 @@
-// Application entity titles: document 01, "Valid PDUs" and "Titles".
+// Application entity titles: document 01, "Valid PDUs" and "Titles"; document 02, E3.
 mod equal;
 mod own;
 mod title;

@@ -42,9 +42,9 @@ fn list_ok(own: &[u8]) -> bool
 fn first_equal(own: &[u8], t: &[u8]) -> usize
     ensures { λ r. ⌜ r ≡ firstPlace (titlesEqual (now (t .entry))) (titles (now (own .entry))) ⌝ }
 {
-    let n = own.len() / TITLE;
+    let count = own.len() / TITLE;
     let mut place = 0;
-    while place < n {
+    while place < count {
         let at = place * TITLE;
         let equal = titles_equal(t, &own[at..at + TITLE]);
         if equal {
@@ -65,9 +65,8 @@ pub fn title_place(own: &[u8], sought: &[u8]) -> Place
     if !list_ok(own) {
         return Place::Refused;
     }
-    let count = own.len() / TITLE;
     let place = first_equal(own, sought);
-    if place < count {
+    if place < own.len() / TITLE {
         return Place::At(place);
     }
     Place::None

@@ -11,7 +11,7 @@ use lib.ListN.{length, getD, length-map}
 use lib.Dec.{leb, eqb}
 use borrow.Author.Tests.{eqb-true, eqb-false}
 use Rattle.laws.specs.Lists.{all, any, empty, sameBytes, distinct}
-use Rattle.laws.proofs.Booleans.{held, holds, left-of, right-of, both-of}
+use Rattle.laws.proofs.Booleans.{held, holds, not-held, left-of, right-of, both-of}
 use Rattle.laws.proofs.Found.{none-at, some-at, any-at}
 use Rattle.laws.proofs.Same.{same-equal, same-self}
 use Rattle.names.specs.Name.{nameOk}
@@ -23,21 +23,12 @@ use Rattle.well_chosen.specs.Meaning.{OneOf, Matches, likedAt, Best, NoC
 
 -- ---- the tests say what their words say
 one-of : (x : List ℕ) (xs : List (List ℕ)) → any (sameBytes x) xs ≡ true → OneOf x xs
-one-of x [] e = absurd (held false e)
-one-of x (y ∷ ys) e = go (sameBytes x y) refl e (one-of x ys)
-  where
-    go : (b : Bool) → sameBytes x y ≡ b → (b || any (sameBytes x) ys) ≡ true → (any (sameBytes x) ys ≡ true → OneOf x ys) → OneOf x (y ∷ ys)
-    go true q r f = record { place = 0; there = omega arith; same = sym (same-equal x y (held _ q)) }
-    go false q r f = let o = f r in let t = o .there in record { place = suc (o .place); there = omega arith; same = o .same }
+one-of x xs e =
+    let o = some-at (sameBytes x) [] xs e in
+    record { place = o .0; there = o .1 .0; same = sym (same-equal x _ (held _ (o .1 .1))) }
 
 one-of-back : (x : List ℕ) (xs : List (List ℕ)) (k : ℕ) → k < length xs → getD xs k [] ≡ x → any (sameBytes x) xs ≡ true
-one-of-back x [] k h e = absurd (omega arith)
-one-of-back x (y ∷ ys) zero h e = ap (λ (z : List ℕ). sameBytes x z || any (sameBytes x) ys) e ∙ rw (holds (sameBytes x x) (same-self x))
-one-of-back x (y ∷ ys) (suc k) h e = rw (one-of-back x ys k (omega arith) e) (or-yes (sameBytes x y))
-  where
-    or-yes : (b : Bool) → (b || true) ≡ true
-    or-yes true = refl
-    or-yes false = refl
+one-of-back x xs k h e = any-at (sameBytes x) [] xs k h (ap (sameBytes x) e ∙ holds (sameBytes x x) (same-self x))
 
 pub proposed-means : (c : Context) (x : List ℕ) → wasProposed c x ≡ true → OneOf x (c .transfers)
 unfolding wasProposed
@@ -148,22 +139,16 @@ module _ (c : Context) (ws : List Liked) where
           sym (f .name) ∙ (ap (λ (k : ℕ). likedAt ws k .transfer) e ∙ o .name)
 
   none-so : ((k : ℕ) → k < length ws → Matches c (likedAt ws k) → ⊥) → any (matches c) ws ≡ false
-  none-so f = go (any (matches c) ws) refl
-    where
-      go : (d : Bool) → any (matches c) ws ≡ d → d ≡ false
-      go true e = let o = some-at (matches c) past ws e in absurd (f (o .0) (o .1 .0) (matches-means c (likedAt ws (o .0)) (o .1 .1)))
-      go false e = refl
+  none-so f = not-held (any (matches c) ws) (λ e. let o = some-at (matches c) past ws e in f (o .0) (o .1 .0) (matches-means c (likedAt ws (o .0)) (o .1 .1)))
 
   no-common-so : NoCommon ws c → resultFor c ws ≡ TRANSFER-NOT-SUPPORTED
   no-common-so n = by-result false true (none-so (n .none)) (any-at (sameAbstract c) past ws (n .place) (n .there) (same-back c (likedAt ws (n .place)) (n .abstract-name)))
 
   not-there-so : NotThere ws c → resultFor c ws ≡ ABSTRACT-NOT-SUPPORTED
   unfolding sameAbstract
-  not-there-so n = by-result false false (none-so (λ k h m. n k h (m .abstract-name))) (go (any (sameAbstract c) ws) refl)
-    where
-      go : (d : Bool) → any (sameAbstract c) ws ≡ d → d ≡ false
-      go true e = let o = some-at (sameAbstract c) past ws e in absurd (n (o .0) (o .1 .0) (same-equal _ _ (held _ (o .1 .1))))
-      go false e = refl
+  not-there-so n =
+      by-result false false (none-so (λ k h m. n k h (m .abstract-name)))
+      (not-held (any (sameAbstract c) ws) (λ e. let o = some-at (sameAbstract c) past ws e in n (o .0) (o .1 .0) (same-equal _ _ (held _ (o .1 .1)))))
 
 -- where none matches, no name
 refused-name : (c : Context) (ws : List Liked) → any (matches c) ws ≡ false → transferFor c ws ≡ []

@@ -3,6 +3,7 @@
 use crate::contents::title_of_other_length;
 use crate::generate::{hex, pairs, Generator};
 use crate::make::{bad_title, good_title};
+use crate::names::without_outer_spaces;
 use crate::random::Random;
 
 /// The turns are (length of the list, place) for a title that is known, else one of these manners with a number.
@@ -141,14 +142,16 @@ static NEAR: &[Near] = &[
         name: "a beginning",
         change: |text, random| {
             let left = random.pick(&[1, text.len() / 2, text.len() - 1]);
-            Some(trimmed(&text[..left])).filter(|other| !other.is_empty() && other.len() < text.len())
+            Some(without_outer_spaces(&text[..left]).to_vec())
+                .filter(|other| !other.is_empty() && other.len() < text.len())
         },
     },
     Near {
         name: "an end",
         change: |text, random| {
             let from = random.pick(&[1, text.len() / 2, text.len() - 1]);
-            Some(trimmed(&text[from..])).filter(|other| !other.is_empty() && other.len() < text.len())
+            Some(without_outer_spaces(&text[from..]).to_vec())
+                .filter(|other| !other.is_empty() && other.len() < text.len())
         },
     },
     Near { name: "a character more behind", change: |text, _| Some([text, b"~"].concat()).filter(|t| t.len() <= 16) },
@@ -159,17 +162,6 @@ fn changed_at(text: &[u8], place: usize, random: &mut Random) -> Vec<u8> {
     let mut other = text.to_vec();
     other[place] = other_character(text[place], random);
     other
-}
-
-fn trimmed(text: &[u8]) -> Vec<u8> {
-    let mut bytes = text.to_vec();
-    while bytes.last() == Some(&0x20) {
-        bytes.pop();
-    }
-    while bytes.first() == Some(&0x20) {
-        bytes.remove(0);
-    }
-    bytes
 }
 
 /// Faults of a title of 16 bytes.

@@ -650,6 +650,12 @@ fn title_bytes_one_by_one() {
 
 // The generator's twists do what they say.
 
+/// The bytes of a word of a call: `hex` backwards.
+pub fn bytes_of(word: &str) -> Vec<u8> {
+    let digits = if word == "-" { "" } else { word };
+    (0..digits.len() / 2).map(|i| u8::from_str_radix(&digits[2 * i..2 * i + 2], 16).unwrap()).collect()
+}
+
 pub fn check_twists<P>(lists: &[&[Twist<P>]], make: &mut dyn FnMut(&mut Random) -> P, valid: &dyn Fn(&P) -> bool) {
     let mut random = Random::new(7);
     for twist in lists.iter().flat_map(|list| list.iter()) {

@@ -7,6 +7,7 @@ use crate::fields::{read_ac, read_rq, sheet_record, RECORD};
 use crate::generate::{hex, Call, Generator};
 use crate::names::name_is_valid;
 use crate::replay::{digest, Replay};
+use crate::tests::bytes_of;
 use crate::write;
 
 /// A proposed context: its ID, its abstract name, its transfer names.
@@ -358,12 +359,8 @@ fn lines_of_c() {
 
 /// The byte strings of a C line, and its room.
 fn words_of(line: &str) -> (Vec<u8>, Vec<u8>, usize) {
-    let bytes = |word: &str| -> Vec<u8> {
-        let digits = if word == "-" { "" } else { word };
-        (0..digits.len() / 2).map(|i| u8::from_str_radix(&digits[2 * i..2 * i + 2], 16).unwrap()).collect()
-    };
     let words: Vec<&str> = line.split(' ').collect();
-    (bytes(words[1]), bytes(words[2]), words[3].parse().unwrap())
+    (bytes_of(words[1]), bytes_of(words[2]), words[3].parse().unwrap())
 }
 
 /// A good record of a proposal or a site sheet, but for its ID.

@@ -14,7 +14,7 @@ use crate::names::name_is_valid;
 use crate::random::Random;
 use crate::refused::{BEHIND, FAULTS};
 use crate::replay::{digest, fresh, Replay};
-use crate::tests::check_twists;
+use crate::tests::{bytes_of, check_twists};
 use crate::write;
 
 fn item(kind: u8, body: &[u8]) -> Vec<u8> {
@@ -516,11 +516,6 @@ fn answer_is_good(sheet: &[u8]) -> bool {
             && record[2..3].iter().chain(&record[4..68]).all(|b| *b == 0)
     };
     !sheet.is_empty() && sheet.len() % RECORD == 0 && (0..records.len()).all(record_is_good)
-}
-
-fn bytes_of(word: &str) -> Vec<u8> {
-    let digits = if word == "-" { "" } else { word };
-    (0..digits.len() / 2).map(|i| u8::from_str_radix(&digits[2 * i..2 * i + 2], 16).unwrap()).collect()
 }
 
 /// So many calls of the two branches, and the generator with its marks.

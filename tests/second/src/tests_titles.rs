@@ -6,6 +6,7 @@ use crate::calls_titles::title_marks;
 use crate::generate::{hex, Generator};
 use crate::names::{title_is_valid, title_place, titles_equal, without_outer_spaces};
 use crate::replay::Replay;
+use crate::tests::bytes_of;
 
 const EQUINE: &[u8] = b"STORE-EQUINE    ";
 const EXOTIC: &[u8] = b"STORE-EXOTIC    ";
@@ -296,11 +297,6 @@ fn but_one(place: usize, own: &[u8], sought: &[u8]) -> Found {
 }
 
 // Generated calls.
-
-fn bytes_of(word: &str) -> Vec<u8> {
-    let digits = if word == "-" { "" } else { word };
-    (0..digits.len() / 2).map(|i| u8::from_str_radix(&digits[2 * i..2 * i + 2], 16).unwrap()).collect()
-}
 
 /// The own titles, the sought one and the answer of each T among so many calls, and the generator with its marks.
 fn generated(seed: u64, count: usize) -> (Vec<(Vec<u8>, Vec<u8>, String)>, Generator) {

@@ -1,4 +1,4 @@
--- `first_equal` meets its contract. None of the titles before the k-th equals t.
+-- `first_equal` meets its contract. None of the titles before this place equals t.
 -- Assumes nothing.
 use Prim.Native.Nat.{_≤_, _+_, _-_, _*_}
 use mathlib.Core.Path.{_≡_}
@@ -11,10 +11,10 @@ use Rattle.titles.proofs.own.first_equal.Statement.{statement}
 use Rattle.titles.proofs.own.first_equal.Tie as tie
 
 abbrev Inv-loop : tie.InvT-loop
-Inv-loop own t n k₀ k = (k ≤ n) × (k + firstPlace (titlesEqual t) (records 16 (n - k) (drop (k * 16) own)) ≡ firstPlace (titlesEqual t) (titles own))
+Inv-loop own t count place₀ place = (place ≤ count) × (place + firstPlace (titlesEqual t) (records 16 (count - place) (drop (place * 16) own)) ≡ firstPlace (titlesEqual t) (titles own))
 
 abbrev μ-loop : tie.MeasureT-loop
-μ-loop own t n k₀ k = n - k
+μ-loop own t count place₀ place = count - place
 
 pub first-equal-spec : {M : Type 1} → statement M
 first-equal-spec =
@@ -24,5 +24,5 @@ first-equal-spec =
     μ-loop
     (λ c. search first-laws) (λ c. search first-laws) (λ c. search first-laws)  -- loop-holds, mul-at, add-titles-equal
     (λ c. search first-laws) (λ c. search first-laws) (λ c. search first-laws)  -- sub-titles-equal, part-titles-equal-start, part-titles-equal-end
-    (λ c κs. search first-laws) (λ c. search first-laws) (λ c. search first-laws) (λ c. search first-laws)  -- titles-equal-requires, returns, add-k, loop-less
+    (λ c κs. search first-laws) (λ c. search first-laws) (λ c. search first-laws) (λ c. search first-laws)  -- titles-equal-requires, returns, add-place, loop-less
     (λ c. search first-laws) (λ c. search first-laws))  -- loop-again, returns-2
