@@ -10,6 +10,7 @@ use Rattle.numbers.specs.Results.{ACCEPTED}
 use Rattle.octets.specs.Octets.{be32, odd}
 use Rattle.names.specs.Name.{nameOk}
 use Rattle.items.specs.Items.{Walk, walk, filled, bodies, first, goodBodies, holds}
+use Rattle.user_items.specs.Kinds.{good50H}
 
 -- ---- the types that each holder knows: an RQ or an AC, with k for the type of a context, 20H or 21H
 abbrev pub topKnown : ℕ → List ℕ
@@ -22,10 +23,6 @@ contextKnown = 0x30 ∷ 0x40 ∷ []
 -- a 21H
 abbrev pub answerKnown : List ℕ
 answerKnown = 0x40 ∷ []
-
--- a 50H
-abbrev pub userKnown : List ℕ
-userKnown = 0x51 ∷ []
 
 -- ---- what the rules below share: how many items of a type there are
 abbrev pub countOf : ℕ → Walk → ℕ
@@ -57,13 +54,6 @@ transferItemOk result w = cond (eqb result ACCEPTED) (one 0x40 w && goodBodies a
 
 unfoldable pub good21H : List ℕ → Bool
 good21H b = leb 4 (length b) && (odd (getD b 0 0) && (leb (getD b 2 0) 4 && transferItemOk (getD b 2 0) (walk (drop 4 b))))
-
--- ---- "50H: exactly one 51H of length 4, the maximum length .. Sub-item order is not tested."
-unfoldable pub userGood : ℕ → List ℕ → Bool
-userGood t b = eqb (length b) 4
-
-unfoldable pub good50H : List ℕ → Bool
-good50H b = one 0x51 (walk b) && goodBodies userKnown userGood (walk b)
 
 -- ---- the items. "10H: one name."
 unfoldable pub contextGood : ℕ → List ℕ → Bool

@@ -54,7 +54,7 @@ fn proposed_ok(b: &[u8]) -> bool
 }
 
 // Whether the items fill s and exactly one is of type t.
-pub(crate) fn one_of(t: u8, s: &[u8]) -> bool
+fn one_of(t: u8, s: &[u8]) -> bool
     ensures { λ r. ⌜ r ≡ one t (walk (now (s .entry))) ⌝ }
 {
     if !items::fills(s) {

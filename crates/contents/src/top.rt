@@ -5,7 +5,6 @@ ghost use Rattle.contents.specs.Contents.{topGood, topOk, itemsOk};
 use crate::context::context_good;
 use crate::ids::ids_differ;
 use crate::order::next;
-use crate::user::user_ok;
 
 // Whether an item may have this body.
 fn top_good(k: u8, t: u8, b: &[u8]) -> bool
@@ -18,7 +17,7 @@ fn top_good(k: u8, t: u8, b: &[u8]) -> bool
         return context_good(k, b);
     }
     if t == 0x50 {
-        return user_ok(b);
+        return user_items::user_ok(b);
     }
     true
 }

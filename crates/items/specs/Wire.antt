@@ -11,3 +11,8 @@ itemBytes t b = t ∷ 0 ∷ (two (length b) ++ b)
 abbrev pub itemsBytes : ℕ → List (List ℕ) → List ℕ
 itemsBytes t [] = []
 itemsBytes t (b ∷ bs) = itemBytes t b ++ itemsBytes t bs
+
+-- items of any types, each a type and a body
+abbrev pub sequence : List (ℕ × List ℕ) → List ℕ
+sequence [] = []
+sequence (i ∷ is) = itemBytes (i .0) (i .1) ++ sequence is

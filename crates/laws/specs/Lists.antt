@@ -52,3 +52,8 @@ among x (y ∷ ys) = eqb x y || among x ys
 unfoldable pub distinct : List ℕ → Bool
 distinct [] = true
 distinct (x ∷ xs) = not (among x xs) && distinct xs
+
+-- no string of bytes comes twice
+unfoldable pub differ : List (List ℕ) → Bool
+differ [] = true
+differ (x ∷ xs) = not (any (sameBytes x) xs) && differ xs

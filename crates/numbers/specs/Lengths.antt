@@ -24,3 +24,7 @@ TITLE = 16
 -- a record of a context sheet: "Records of 132 bytes"
 abbrev pub RECORD : ℕ
 RECORD = 132
+
+-- a record of a role sheet: "records of 68 bytes"
+abbrev pub ROLE : ℕ
+ROLE = 68

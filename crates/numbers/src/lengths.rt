@@ -12,3 +12,5 @@ pub const TEN: usize = 10;
 pub const TITLE: usize = 16;
 // A record of a context sheet.
 pub const RECORD: usize = 132;
+// A record of a role sheet.
+pub const ROLE: usize = 68;

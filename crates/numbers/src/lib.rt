@@ -16,6 +16,7 @@ pub use lengths::BUFFER;
 pub use lengths::HEADER;
 pub use lengths::LONGEST;
 pub use lengths::RECORD;
+pub use lengths::ROLE;
 pub use lengths::TEN;
 pub use lengths::TITLE;
 pub use refusals::BAD_CONTENTS;

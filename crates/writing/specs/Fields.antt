@@ -8,20 +8,23 @@ use lib.Dec.{eqb}
 use Rattle.names.specs.Name.{nameOk}
 use Rattle.titles.specs.Title.{titleOk}
 use Rattle.sheets.specs.Sheet.{proposalOk, answersOk}
+use Rattle.user_items.specs.Sent.{User, userGood}
 use Rattle.pdvs.specs.Data.{pdvsOk}
 use Rattle.reasons.specs.Values.{rejectOk, abortOk}
 
--- an A-ASSOCIATE-RQ: the titles, the application name, the proposal sheet
+-- an A-ASSOCIATE-RQ: the titles, the application name, the user information, the proposal sheet
 pub record RqFields : Type 0 where
   pub called : List ℕ
   pub calling : List ℕ
   pub application : List ℕ
+  pub user : User
   pub sheet : List ℕ
 
--- an A-ASSOCIATE-AC: the RQ's PDU bytes 11 to 74, the application name, the answer sheet
+-- an A-ASSOCIATE-AC: the RQ's PDU bytes 11 to 74, the application name, the user information, the answer sheet
 pub record AcFields : Type 0 where
   pub echoed : List ℕ
   pub application : List ℕ
+  pub user : User
   pub sheet : List ℕ
 
 pub record Reject : Type 0 where
@@ -38,11 +41,11 @@ pub record Abort : Type 0 where
   pub reason : ℕ
 
 -- each from the arguments of its call
-abbrev pub rqOf : List ℕ → List ℕ → List ℕ → List ℕ → RqFields
-rqOf called calling application sheet = record { called = called; calling = calling; application = application; sheet = sheet }
+abbrev pub rqOf : List ℕ → List ℕ → List ℕ → User → List ℕ → RqFields
+rqOf called calling application user sheet = record { called = called; calling = calling; application = application; user = user; sheet = sheet }
 
-abbrev pub acOf : List ℕ → List ℕ → List ℕ → AcFields
-acOf echoed application sheet = record { echoed = echoed; application = application; sheet = sheet }
+abbrev pub acOf : List ℕ → List ℕ → User → List ℕ → AcFields
+acOf echoed application user sheet = record { echoed = echoed; application = application; user = user; sheet = sheet }
 
 abbrev pub rejectOf : ℕ → ℕ → ℕ → Reject
 rejectOf result source reason = record { result = result; source = source; reason = reason }
@@ -57,11 +60,11 @@ abortOf source reason = record { source = source; reason = reason }
 
 -- "Other local titles and names .. follow the rules above."
 unfoldable pub rqGood : RqFields → Bool
-rqGood f = titleOk (f .called) && (titleOk (f .calling) && (nameOk (f .application) && proposalOk (f .sheet)))
+rqGood f = titleOk (f .called) && (titleOk (f .calling) && (nameOk (f .application) && (userGood (f .user) && proposalOk (f .sheet))))
 
 -- "64 of any value are taken, another count gets 4"
 unfoldable pub acGood : AcFields → Bool
-acGood f = eqb (length (f .echoed)) 64 && (nameOk (f .application) && answersOk (f .sheet))
+acGood f = eqb (length (f .echoed)) 64 && (nameOk (f .application) && (userGood (f .user) && answersOk (f .sheet)))
 
 -- ".. and a reject's values, follow the rules above."
 unfoldable pub rejectGood : Reject → Bool

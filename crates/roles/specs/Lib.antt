@@ -1,0 +1,3 @@
+pub mod Role
+pub mod Sheet
+pub mod Record
