@@ -76,6 +76,13 @@ def request(kind, items):
     return bytes([kind, 0xFF]) + (len(fixed) + len(items)).to_bytes(4, "big") + fixed + items
 
 
+def turned(kind, items):
+    """The items of the other kind of PDU, with the same 50H: of lists that begin with the application name 1 and CONTEXT's item, and far from the limit of 16,384, which a longer context would pass."""
+    lead = bytes.fromhex("1000000131")
+    mine, theirs = lead + CONTEXT[kind][1], lead + CONTEXT[3 - kind][1]
+    return theirs + items[len(mine) :] if items.startswith(mine) and len(items) < 16000 else b""
+
+
 def digest(buffer):
     """of a whole lent buffer, as docs/REPLAY.md has it"""
     h = 1
@@ -203,11 +210,17 @@ def main():
         if name in records:
             sheet = records.pop(name)
             read += ["1", None, None, None, str(len(sheet) // RECORD)] + [None] * 7 + [str(digest(sheet + b"\xc3" * (SHEET - len(sheet))))]
-        if name in informed:
-            user = informed.pop(name)
+        user = informed.pop(name, None)
+        if user:
             user_reads += user_read(name, pdu, user)
             read = refused(2, SHEET, SHEET) if len(user[4]) > SHEET else read
         calls.append((name, f"{' QA'[code]} {words(pdu)} {SHEET} {SHEET}", read))
+        other = turned(code, unpacked(text)) if name.startswith("e4-") else b""
+        if other:
+            where, code = f"{name}, the 50H in the other kind", 3 - code
+            pdu = request(code, other)
+            user_reads.append((where, f"K {words(pdu)}", [str(code * int(good))]))
+            user_reads += user_read(where, pdu, user) if user else [(where, f"{' QA'[code]} {words(pdu)} {SHEET} {SHEET}", read)]
     if records:
         sys.exit(f"reads: no list of items is named {', '.join(records)}")
     if informed:
