@@ -1,2 +1,4 @@
 pub mod BodyLaws
+pub mod KindLaws
+pub mod UserLaws
 pub mod Agree
