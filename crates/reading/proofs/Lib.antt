@@ -6,6 +6,6 @@ pub mod ValueLaws
 pub mod DataLaws
 pub mod PlaceLaws
 
--- pub mod Agree
--- pub mod Meaning
--- pub mod Examples
+pub mod Agree
+pub mod Meaning
+pub mod Examples

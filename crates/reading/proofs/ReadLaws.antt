@@ -24,7 +24,7 @@ use Rattle.names.proofs.NameLaws.{name-short}
 use Rattle.items.specs.Items.{walk, bodies, first, place}
 use Rattle.items.proofs.HoldLaws.{first-good}
 use Rattle.items.proofs.PlaceLaws.{stands}
-use Rattle.contents.specs.Contents.{good20H, good21H, good50H, topGood, itemsOk, maximumIn}
+use Rattle.contents.specs.Contents.{good20H, good21H, topGood, itemsOk, maximumIn}
 use Rattle.contents.proofs.GoodLaws.{abstract-name, transfer-names, transfer-name, items-good, items-counts, items-20, items-21}
 use Rattle.judging.specs.Pdu.{kindOf, maximumOf}
 use Rattle.judging.proofs.KindLaws.{request-long, accept-long, request-items, accept-items}
@@ -33,8 +33,9 @@ use Rattle.sheets.specs.Sheet.{contextRecords, sheetOf, answerSheetOf}
 use Rattle.sheets.specs.Record.{recordOf}
 use Rattle.sheets.proofs.RecordLaws.{record-whole}
 use Rattle.sheets.proofs.Inverse.{transfer-fits}
-use Rattle.user_items.specs.Kinds.{good54H}
+use Rattle.user_items.specs.Kinds.{good50H}
 use Rattle.user_items.specs.Said.{rolesSaid}
+use Rattle.user_items.proofs.GoodLaws.{roles-good}
 use Rattle.reading.specs.Associate.{contextOf, transferIn, answerOf, proposed, answered, applicationOf, applicationAt, subItemsOf, sheetIn, rolesSheetIn, refused, fieldsOf, associateOf, filling, rolesFilling, Read}
 use Rattle.reading.specs.Private.Records.{each, bodyRecords, allRecords, contextType, allRoles, Counted, Filled, userIn, fieldsWith}
 use Rattle.reading.specs.declared.associate.Associate.{Associate}
@@ -131,14 +132,10 @@ module _ (x : List ℕ) (kind : ℕ) (a : 1 ≤ kind) (b : kind ≤ 2) where
       either (λ (k : ℕ). kindOf x ≡ k → good50H (first (bodies 0x50 (walk (drop 74 x)))) ≡ true) (λ e. items-50 0x20 (drop 74 x) (request-items x e) refl refl refl)
       (λ e. items-50 0x21 (drop 74 x) (accept-items x e) refl refl refl)
 
-  pub roles-good : kindOf x ≡ kind → all good54H (bodies 0x54 (subItemsOf x)) ≡ true
-  unfolding subItemsOf
-  roles-good e = ?
-
   -- and what the code puts into the role sheet is the sheet of the roles
   roles-of : kindOf x ≡ kind → allRoles (first (bodies 0x50 (walk (drop 74 x)))) ≡ rolesSheetIn x
   unfolding rolesSheetIn rolesSaid subItemsOf
-  roles-of e = roles-sheet (bodies 0x54 (subItemsOf x)) (roles-good e)
+  roles-of e = roles-sheet (bodies 0x54 (subItemsOf x)) (roles-good (first (bodies 0x50 (walk (drop 74 x)))) (user-of e))
 
 -- ---- `fields`
 pub fields-is : (x p : List ℕ) (n m v t z : ℕ) (w : UserRead) → v ≡ be16 x 6 → t ≡ place 0x10 (walk (take (length x - 74) (drop 74 x))) → p ≡ first (bodies 0x10 (walk (take (length x - 74) (drop 74 x))))
