@@ -1,2 +1,3 @@
 pub mod RecordLaws
+pub mod GoodLaws
 pub mod Agree

@@ -3,20 +3,17 @@
 use Prim.Native.Nat.{ℕ, _+_, _-_, _≤_, _<_}
 use native.Mathlib.Omega.{arith}
 use native.Mathlib.Nat.{add-sub-cancel-left}
-use mathlib.Core.Bool.{Bool, true, false, cond}
 use mathlib.Core.List.{List, [], _∷_, _++_, append-nil}
-use mathlib.Core.Path.{_≡_, refl, sym, ap, _∙_}
+use mathlib.Core.Path.{_≡_, sym, ap, _∙_}
 use lib.ListN.{length, take, drop, getD, set, replicate, length-drop}
 use lib.Seq.{take-take, take-add, drop-drop, drop-at, length-take-le, getD-take, getD-drop}
-use lib.Dec.{leb}
 use borrow.Author.Needs.{needs}
 use borrow.Author.Tests.{le-leb, lt-leb}
 use Rattle.octets.specs.Put.{Placed}
 use Rattle.octets.proofs.PutLaws.{put-out}
 use Rattle.octets.proofs.SliceLaws.{place-from}
 use Rattle.sheets.specs.Sheet.{field, cap}
-use Rattle.sheets.proofs.RecordLaws.{name-put, cut-fits, cut-short, field-length}
-use Rattle.roles.specs.Role.{Role}
+use Rattle.sheets.proofs.RecordLaws.{name-put, cut-fits}
 use Rattle.roles.specs.Sheet.{roleBytes, roleIn}
 use Rattle.roles.specs.Record.{recordOf, uidAt, uidStart}
 

@@ -1,0 +1,5 @@
+pub mod BodyLaws
+pub mod KindLaws
+pub mod UserLaws
+pub mod ContentLaws
+pub mod Agree
