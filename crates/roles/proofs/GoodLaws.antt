@@ -19,6 +19,7 @@ use Rattle.roles.specs.Role.{roleUid, roleOk, rolesOk}
 use Rattle.roles.specs.Sheet.{roleRecords, roleIn, rolesIn, unusedZero, roleSheetOk}
 use Rattle.roles.specs.Record.{uidAt}
 use Rattle.roles.specs.Private.OneRecord.{recordOk, uidsIn}
+use Rattle.roles.proofs.RecordLaws.{uid-here}
 
 -- ---- the roles of a sheet, from a place on
 pub role-records-here : (s : List ℕ) (at : ℕ) → at + 68 ≤ length s → roleRecords (drop at s) ≡ take 68 (drop at s) ∷ roleRecords (drop (at + 68) s)
@@ -37,11 +38,7 @@ pub roles-none : (s : List ℕ) (at : ℕ) → length s < at + 68 → rolesIn (d
 unfolding rolesIn
 roles-none s at h = rw (role-records-none s at h)
 
--- the UID of the record at a place, and of a record by itself
-pub uid-here : (s : List ℕ) (at : ℕ) → at + 68 ≤ length s → uidAt s at ≡ roleIn (take 68 (drop at s)) .uid
-unfolding uidAt
-uid-here s at h = simp (le-leb (at + 68) (length s) h)
-
+-- the UID of a record by itself
 pub uid-own : (r u : List ℕ) → length r ≡ 68 → u ≡ uidAt r 0 → u ≡ roleIn r .uid
 uid-own r u l e = e ∙ (uid-here r 0 (omega arith) ∙ ap (λ (m : List ℕ). roleIn m .uid) (take-all 68 r (omega arith)))
 
