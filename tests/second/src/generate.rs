@@ -2,7 +2,9 @@
 
 use std::collections::VecDeque;
 
+use crate::calls_roles::role_turns;
 use crate::calls_titles::title_turns;
+use crate::calls_user::{given_turns, room_turns, user_turns};
 use crate::contents::{AcContents, RqContents};
 use crate::machine::cell;
 use crate::make::{some_maximum, some_reject};
@@ -98,6 +100,10 @@ pub static BRANCHES: &[Branch] = &[
     Branch { name: "many records", weight: 4, run: Generator::many_records },
     Branch { name: "AC with refused contexts", weight: 240, run: Generator::refused_contexts },
     Branch { name: "answer with refused records", weight: 130, run: Generator::refused_records },
+    Branch { name: "user information", weight: 290, run: Generator::user_information },
+    Branch { name: "two sheets", weight: 36, run: Generator::two_sheets },
+    Branch { name: "user information to be sent", weight: 168, run: Generator::user_to_be_sent },
+    Branch { name: "many roles", weight: 24, run: Generator::many_roles },
     Branch { name: "limit of 16,384 in few words", weight: 36, run: Generator::limit_in_few_words },
     Branch { name: "limit of 16,384 in full", weight: 20, run: Generator::limit_in_full },
     Branch { name: "bad form", weight: 26, run: Generator::bad_form },
@@ -147,6 +153,10 @@ pub struct Generator {
     pub items: Turns,
     pub long_choices: Turns,
     pub titles: Turns,
+    pub users: Turns,
+    pub givens: Turns,
+    pub two_rooms: Turns,
+    pub role_counts: Turns,
     pub calls: VecDeque<Call>,
 }
 
@@ -182,6 +192,10 @@ impl Generator {
             items,
             long_choices,
             titles: own_order(title_turns()),
+            users: own_order(user_turns()),
+            givens: own_order(given_turns()),
+            two_rooms: own_order(room_turns()),
+            role_counts: own_order(role_turns()),
             calls: VecDeque::new(),
         };
         generator.first_calls();
