@@ -35,6 +35,8 @@ mod tests_choose;
 mod tests_refused;
 #[cfg(test)]
 mod tests_titles;
+#[cfg(test)]
+mod tests_user;
 mod twists;
 mod user;
 mod valid;
