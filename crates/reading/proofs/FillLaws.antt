@@ -2,6 +2,7 @@
 -- Assumes nothing.
 use Prim.Native.Nat.{ℕ, _+_, _-_, _*_, _^_, _≤_, _<_}
 use native.Mathlib.Omega.{arith}
+use native.Mathlib.Nat.{mul-zero, mul-suc}
 use mathlib.Core.Bool.{Bool, true, false, cond}
 use mathlib.Core.List.{List, [], _∷_, _++_}
 use mathlib.Core.Path.{_≡_, refl, sym, ap, _∙_}
@@ -104,7 +105,7 @@ module _ (f : List ℕ → List ℕ) (t : ℕ) (s o₀ : List ℕ) (from : ℕ) 
       both-room : n + (length (f (bodyAt s at e)) + length (each f (bodies t (walk (drop e s))))) ≤ length o
       both-room = let z = ap length split ∙ length-append (f (bodyAt s at e)) (each f (bodies t (walk (drop e s)))) in let r = w .room in omega arith
 
-      pub fill-room : n + length (f (take (e - (at + 4)) (drop (at + 4) s))) ≤ length o
+      fill-room : n + length (f (take (e - (at + 4)) (drop (at + 4) s))) ≤ length o
       fill-room = let r = both-room in omega arith
 
       pub fill-next : (o′ : List ℕ) (n′ : ℕ) → Put o n (f (take (e - (at + 4)) (drop (at + 4) s))) n′ o′ → Filling f t s o₀ from o′ n′ e
@@ -115,14 +116,19 @@ module _ (f : List ℕ → List ℕ) (t : ℕ) (s o₀ : List ℕ) (from : ℕ) 
             long = ap length (v .out) ∙ (put-length o n (f (bodyAt s at e)) fill-room ∙ w .long);
           }
 
--- a record has room
-pub fill-132 : (id : ℕ) (a s o₀ : List ℕ) (from : ℕ) (o : List ℕ) (n at : ℕ) → Filling (recordOf id 0 a) 0x40 s o₀ from o n at → (e : ℕ) → e ≡ itemEnd s at → (e ≡ 0 → ⊥) → getD s at 0 ≡ 0x40 → n + 132 ≤ length o
-fill-132 id a s o₀ from o n at w e p k h =
-    let r = fill-room (recordOf id 0 a) 0x40 s o₀ from o n at w e p k h in
-    let l = record-132 id 0 a (bodyAt s at e) in
+-- of f that gives w bytes each, the next has room
+pub fill-wide : (f : List ℕ → List ℕ) (w t : ℕ) → ((b : List ℕ) → length (f b) ≡ w) → (s o₀ : List ℕ) (from : ℕ) (o : List ℕ) (n at : ℕ) → Filling f t s o₀ from o n at
+    → (e : ℕ) → e ≡ itemEnd s at → (e ≡ 0 → ⊥) → getD s at 0 ≡ t → n + w ≤ length o
+fill-wide f w t i s o₀ from o n at g e p k h =
+    let r = fill-room f t s o₀ from o n at g e p k h in
+    let l = i (bodyAt s at e) in
     omega arith
 
--- and so has a context
+-- so has a record
+pub fill-132 : (id : ℕ) (a s o₀ : List ℕ) (from : ℕ) (o : List ℕ) (n at : ℕ) → Filling (recordOf id 0 a) 0x40 s o₀ from o n at → (e : ℕ) → e ≡ itemEnd s at → (e ≡ 0 → ⊥) → getD s at 0 ≡ 0x40 → n + 132 ≤ length o
+fill-132 id a = fill-wide (recordOf id 0 a) 132 0x40 (record-132 id 0 a)
+
+-- and a context
 pub fill-body : (k : ℕ) (s o₀ : List ℕ) (from : ℕ) (o : List ℕ) (n at : ℕ) → Filling (bodyRecords k) k s o₀ from o n at → (e : ℕ) → e ≡ itemEnd s at → (e ≡ 0 → ⊥) → getD s at 0 ≡ k
     → n + length (bodyRecords k (take (e - (at + 4)) (drop (at + 4) s))) ≤ length o
 fill-body k s o₀ from o n at w e p ne h = fill-room (bodyRecords k) k s o₀ from o n at w e p ne h
@@ -159,11 +165,14 @@ module _ (k n : ℕ) (b o : List ℕ) (id : ℕ) (q : id ≡ getD b 0 0) where
 
 pub ruleset context-laws = (needs, proposed-room, proposed-written, answered-room, answered-written)
 
--- ---- counting: 132 bytes for each record
-each-size : (id : ℕ) (a : List ℕ) (xs : List (List ℕ)) → length (each (recordOf id 0 a) xs) ≡ 132 * length xs
+-- ---- counting: w bytes for each, 132 for a record
+pub each-wide : (f : List ℕ → List ℕ) (w : ℕ) → ((x : List ℕ) → length (f x) ≡ w) → (xs : List (List ℕ)) → length (each f xs) ≡ w * length xs
 unfolding each
-each-size id a [] = refl
-each-size id a (x ∷ xs) = let l = record-132 id 0 a x in let m = each-size id a xs in simp length-append (omega arith)
+each-wide f w h [] = sym (mul-zero w)
+each-wide f w h (x ∷ xs) = let l = h x in let m = each-wide f w h xs in simp (length-append, mul-suc) (omega arith)
+
+each-size : (id : ℕ) (a : List ℕ) (xs : List (List ℕ)) → length (each (recordOf id 0 a) xs) ≡ 132 * length xs
+each-size id a = each-wide (recordOf id 0 a) 132 (record-132 id 0 a)
 
 pub rows-proposed : (k r : ℕ) (b x : List ℕ) → k ≡ 0x20 → x ≡ drop 4 b → r ≡ length (bodies 0x40 (walk x)) → 132 * r ≡ length (bodyRecords k b)
 unfolding bodyRecords contextOf

@@ -1,5 +1,4 @@
 // The roles of the user information, put into a lent role sheet in PDU order: one record for each 54H.
-ghost use mathlib.Core.Path.{_≡_};
 ghost use Prim.Native.Nat.{_+_, _≤_};
 ghost use lib.ListN.{length};
 ghost use Rattle.numbers.specs.Lengths.{ROLE};
