@@ -5,4 +5,5 @@ pub mod ContentLaws
 pub mod RoleLaws
 pub mod GoodLaws
 pub mod Exactly
+pub mod SentLaws
 pub mod Agree
