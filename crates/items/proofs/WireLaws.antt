@@ -1,6 +1,6 @@
 -- What is written as items is walked over as the same items.
 -- Assumes nothing.
-use Prim.Native.Nat.{ℕ, zero, suc, _+_, _≤_, _<_}
+use Prim.Native.Nat.{ℕ, zero, suc, _+_, _<_}
 use native.Mathlib.Omega.{arith}
 use mathlib.Core.Bool.{Bool, true, false, cond}
 use mathlib.Core.List.{List, [], _∷_, _++_, map, append-assoc, append-nil}
@@ -191,3 +191,14 @@ place-along t (i ∷ is) b w h = go (eqb (i .0) t) h (place-along t is b w)
         → cond d 4 (4 + length (i .1) + place t (along is (item t b w))) ≡ length (sequence (i ∷ is)) + 4
     go true q r = let z : suc (length (ofType t is)) ≡ 0 = ap length q in absurd (omega arith)
     go false q r = let l = sequence-cons i is in let p = r q in omega arith
+
+pub along-append : (is js : List (ℕ × List ℕ)) (w : Walk) → along (is ++ js) w ≡ along is (along js w)
+unfolding along
+along-append [] js w = refl
+along-append (i ∷ is) js w = rw (along-append is js w)
+
+-- in what is written alone
+pub place-whole : (t : ℕ) (is : List (ℕ × List ℕ)) (b : List ℕ) (js : List (ℕ × List ℕ)) → all fits (is ++ ((t, b) ∷ js)) ≡ true → ofType t is ≡ []
+    → place t (walk (sequence (is ++ ((t, b) ∷ js)))) ≡ length (sequence is) + 4
+unfolding along
+place-whole t is b js h n = ap (place t) (walk-whole (is ++ ((t, b) ∷ js)) h ∙ along-append is ((t, b) ∷ js) done) ∙ place-along t is b (along js done) n

@@ -1,9 +1,9 @@
 -- `good50H` tells exactly what Meaning.Good50H says field by field.
 -- Assumes nothing.
-use Prim.Native.Nat.{ℕ, zero, suc, _+_, _≤_, _<_}
+use Prim.Native.Nat.{ℕ, zero, suc, _≤_, _<_}
 use native.Mathlib.Omega.{arith}
-use mathlib.Core.Bool.{Bool, true, false, _&&_}
-use mathlib.Core.List.{List, [], _∷_, _++_, map}
+use mathlib.Core.Bool.{Bool, true, _&&_}
+use mathlib.Core.List.{List, [], _∷_, map}
 use mathlib.Core.Path.{_≡_, refl, sym, ap, _∙_}
 use lib.ListN.{length, getD, length-map}
 use lib.Dec.{leb}
@@ -14,13 +14,13 @@ use Rattle.laws.proofs.Differ.{differ-apart, apart-differ}
 use Rattle.laws.proofs.Found.{all-at, at-all}
 use Rattle.names.specs.Name.{nameOk}
 use Rattle.titles.specs.Title.{titleByte}
-use Rattle.items.specs.Items.{walk, filled, bodies}
+use Rattle.items.specs.Items.{walk, bodies}
 use Rattle.roles.specs.Role.{Role, roleOk}
-use Rattle.user_items.specs.Kinds.{Kind, alike, fourLong, versionOk, uidIn, roleOf, good54H, userKinds, kept, good50H}
-use Rattle.user_items.specs.Meaning.{count, body, AtMostOne, Good54H, Good55H, Good50H}
+use Rattle.user_items.specs.Kinds.{alike, fourLong, versionOk, uidIn, roleOf, good54H, userKinds, kept, good50H}
+use Rattle.user_items.specs.Meaning.{body, AtMostOne, Good54H, Good55H, Good50H}
 use Rattle.user_items.specs.Sent.{roleBody}
 use Rattle.user_items.proofs.RoleLaws.{role-54, role-body, role-named, role-scu, role-scp, body-good}
-use Rattle.user_items.proofs.GoodLaws.{alike-few, few-alike, other, user-filled, maximum-four, maximum-one, maximum-length, class-good, class-few, counts-four, counts-few, roles-good, uids-differ, version-good, version-few, user-back, kept-back}
+use Rattle.user_items.proofs.GoodLaws.{few-alike, other, user-filled, maximum-four, maximum-one, class-good, class-few, counts-four, counts-few, roles-good, uids-differ, version-good, version-few, user-back, kept-back}
 
 -- ---- strings at their places, and what is made of each
 made-at : (f : List ℕ → List ℕ) (xs : List (List ℕ)) (i : ℕ) → i < length xs → getD (map f xs) i [] ≡ f (getD xs i [])

@@ -5,4 +5,6 @@ pub mod ContentLaws
 pub mod RoleLaws
 pub mod GoodLaws
 pub mod Exactly
+pub mod SentLaws
+pub mod Examples
 pub mod Agree

@@ -2,19 +2,19 @@
 -- Assumes nothing.
 use Prim.Native.Nat.{ℕ, _+_, _*_, _/_, _%_, _≤_, _<_}
 use native.Mathlib.Omega.{arith}
-use mathlib.Core.Bool.{true, _&&_}
+use mathlib.Core.Bool.{true}
 use mathlib.Core.List.{List, [], _∷_, _++_}
 use mathlib.Core.Path.{_≡_, refl, sym, ap, _∙_}
 use lib.ListN.{length, take, drop, getD, length-append, take-append-drop}
-use lib.Seq.{length-take-le, take-at, getD-at, getD-drop, getD-append-add}
+use lib.Seq.{length-take-le, take-at, getD-drop, getD-append-add}
 use lib.Dec.{leb, eqb}
 use borrow.Author.Tests.{eq-eqb, eqb-true, leb-true}
 use Rattle.laws.proofs.Booleans.{left-of, right-of, both-of}
 use Rattle.laws.proofs.Places.{at-cons, at-end}
 use Rattle.octets.specs.Octets.{be16, two}
 use Rattle.names.specs.Name.{nameOk}
-use Rattle.names.proofs.NameLaws.{name-short}
 use Rattle.roles.specs.Role.{Role, roleOk}
+use Rattle.roles.proofs.Inverse.{role-fits}
 use Rattle.user_items.specs.Kinds.{uidIn, roleOf, good54H}
 use Rattle.user_items.specs.Sent.{roleBody}
 
@@ -23,9 +23,6 @@ module _ (r : Role) (g : roleOk r ≡ true) where
   pub role-named : nameOk (r .uid) ≡ true
   unfolding roleOk
   role-named = left-of _ _ g
-
-  pub role-short : length (r .uid) ≤ 64
-  role-short = name-short (r .uid) role-named
 
   pub role-scu : r .scu ≤ 1
   unfolding roleOk
@@ -67,7 +64,7 @@ module _ (r : Role) (h : length (r .uid) < 65536) where
 pub body-good : (r : Role) → roleOk r ≡ true → good54H (roleBody r) ≡ true
 unfolding good54H
 body-good r g =
-    let s = role-short r g in
+    let s = role-fits r g in
     let h : length (r .uid) < 65536 = omega arith in
     let l = body-length r in
     rw (body-role r h, said-length r h) (both-of _ _ (eq-eqb (length (roleBody r)) (2 + length (r .uid) + 2) (omega arith)) g)
@@ -96,7 +93,7 @@ role-body (x ∷ y ∷ l) g =
     let n : ℕ = x * 256 + y in
     let f : length (x ∷ y ∷ l) ≡ 2 + n + 2 = filled-54 (x ∷ y ∷ l) g in
     let u : length (take n l) ≡ n = length-take-le n l (omega arith) in
-    let s : length (take n l) ≤ 64 = role-short (roleOf (x ∷ y ∷ l)) (role-54 (x ∷ y ∷ l) g) in
+    let s : length (take n l) ≤ 64 = role-fits (roleOf (x ∷ y ∷ l)) (role-54 (x ∷ y ∷ l) g) in
     let hi : length (take n l) / 256 ≡ x = omega arith in
     let lo : length (take n l) % 256 ≡ y = omega arith in
     let o : 3 + n ≡ 2 + (n + 1) = omega arith in
