@@ -15,7 +15,7 @@ use Rattle.names.specs.Name.{nameOk}
 use Rattle.names.proofs.NameLaws.{name-short}
 use Rattle.titles.specs.Title.{titleOk}
 use Rattle.items.specs.Wire.{itemBytes, itemsBytes, sequence}
-use Rattle.items.proofs.WireLaws.{item-length}
+use Rattle.items.proofs.WireLaws.{item-length, sequence-cons, sequence-length}
 use Rattle.sheets.specs.Contexts.{contextOk, transferNameOk, answeredOk, contextsOk, allAnsweredOk}
 use Rattle.sheets.specs.Sheet.{recordBytes, recordsOf, cap, abstractOf, transferOf, goesOn, start, sheetRuns, contextsIn, answeredOf, answersIn, fieldOk, fieldsOk, proposes, answers, proposalOk, answersOk}
 use Rattle.roles.specs.Role.{Role, rolesOk}
@@ -28,20 +28,11 @@ use Rattle.writing.specs.Cases.{asking, accepting, rolesSize, added, onl
 use Rattle.writing.proofs.FormLaws.{refusal-0, refusal-2}
 
 -- ---- the user information: our maximum length, and what is added
-sequence-long : (xs ys : List (ℕ × List ℕ)) → length (sequence (xs ++ ys)) ≡ length (sequence xs) + length (sequence ys)
-sequence-long [] ys = omega arith
-sequence-long (x ∷ xs) ys =
-    let a = length-append (itemBytes (x .0) (x .1)) (sequence (xs ++ ys)) in
-    let b = length-append (itemBytes (x .0) (x .1)) (sequence xs) in
-    let r = sequence-long xs ys in
-    omega arith
-
 roles-long : (rs : List Role) → length (sequence (map roleItem rs)) ≡ rolesSize rs
 unfolding rolesSize roleBody
 roles-long [] = refl
 roles-long (r ∷ rs) =
-    let a = length-append (itemBytes 0x54 (roleBody r)) (sequence (map roleItem rs)) in
-    let i = item-length 0x54 (roleBody r) in
+    let a = sequence-cons (roleItem r) (map roleItem rs) in
     let b = length-append (r .uid) (r .scu ∷ r .scp ∷ []) in
     let l = roles-long rs in
     omega arith
@@ -65,12 +56,10 @@ version-long u = go (u .version)
 pub user-long : (u : User) → length (userBytes u) ≡ 8 + added u
 unfolding userBytes subItems roleItems added
 user-long u =
-    let a = length-append (itemBytes 0x51 (four LONGEST)) (itemBytes 0x52 (u .class) ++ sequence (countItems u ++ (roleItems u ++ versionItems u))) in
-    let b = length-append (itemBytes 0x52 (u .class)) (sequence (countItems u ++ (roleItems u ++ versionItems u))) in
-    let c = item-length 0x51 (four LONGEST) in
-    let d = item-length 0x52 (u .class) in
-    let e = sequence-long (countItems u) (roleItems u ++ versionItems u) in
-    let f = sequence-long (roleItems u) (versionItems u) in
+    let a = sequence-cons (0x51, four LONGEST) ((0x52, u .class) ∷ (countItems u ++ (roleItems u ++ versionItems u))) in
+    let b = sequence-cons (0x52, u .class) (countItems u ++ (roleItems u ++ versionItems u)) in
+    let e = sequence-length (countItems u) (roleItems u ++ versionItems u) in
+    let f = sequence-length (roleItems u) (versionItems u) in
     let g = counts-long u in
     let h = roles-long (rolesIn (u .roles)) in
     let i = version-long u in

@@ -3,7 +3,7 @@
 use Prim.Native.Nat.{ℕ, _+_, _/_, _%_, _≤_, _<_}
 use native.Mathlib.Omega.{arith}
 use mathlib.Core.Bool.{Bool, true, false, _&&_, cond}
-use mathlib.Core.List.{List, [], _∷_, _++_, append-assoc, append-nil}
+use mathlib.Core.List.{List, [], _∷_, _++_, append-nil}
 use mathlib.Core.Path.{_≡_, refl, sym, ap, _∙_}
 use lib.ListN.{length, getD, length-append}
 use lib.Dec.{eqb}
@@ -16,7 +16,7 @@ use Rattle.octets.specs.Put.{Placed}
 use Rattle.octets.specs.Private.Put.{Put}
 use Rattle.octets.proofs.PutLaws.{placed-put, put-nothing, next-room, next-put}
 use Rattle.items.specs.Wire.{itemBytes, sequence}
-use Rattle.items.proofs.WireLaws.{item-length}
+use Rattle.items.proofs.WireLaws.{item-length, sequence-append}
 use Rattle.user_items.specs.Sent.{User, userOf, countItems, roleItems, versionItems, subItems, userBytes}
 use Rattle.writing_associate.specs.Private.ContextItems.{capped}
 use Rattle.writing_associate.specs.Private.RoleItems.{rolesFrom}
@@ -24,10 +24,6 @@ use Rattle.writing_associate.specs.Private.UserItems.{countBytes, versio
 use Rattle.writing_associate.proofs.ItemLaws.{part-room, rest-room, both-put, item-room}
 
 -- ---- the sub-items as they are written
-sequence-both : (xs ys : List (ℕ × List ℕ)) → sequence (xs ++ ys) ≡ sequence xs ++ sequence ys
-sequence-both [] ys = refl
-sequence-both (x ∷ xs) ys = rw (sequence-both xs ys) (sym (append-assoc (itemBytes (x .0) (x .1)) (sequence xs) (sequence ys)))
-
 -- one item, or none
 perhaps : (b : Bool) (t : ℕ) (x : List ℕ) → sequence (cond b [] ((t, x) ∷ [])) ≡ cond b [] (itemBytes t x)
 perhaps true t x = refl
@@ -37,7 +33,7 @@ user-is : (u : User) → userBytes u ≡ itemBytes 0x51 (four LONGEST) ++ behind
 unfolding userBytes subItems countItems roleItems versionItems countBytes rolesFrom versionBytes
 user-is u =
     rw
-    (sequence-both (countItems u) (roleItems u ++ versionItems u), sequence-both (roleItems u) (versionItems u), perhaps (eqb (u .invoked) 1 && eqb (u .performed) 1) 0x53 (two (u .invoked) ++ two (u .performed)), perhaps (empty (u .version)) 0x55 (u .version))
+    (sequence-append (countItems u) (roleItems u ++ versionItems u), sequence-append (roleItems u) (versionItems u), perhaps (eqb (u .invoked) 1 && eqb (u .performed) 1) 0x53 (two (u .invoked) ++ two (u .performed)), perhaps (empty (u .version)) 0x55 (u .version))
 
 -- ---- `one_and_one`, `counts_size`, `version_size`
 module _ (i p : ℕ) where
