@@ -6,13 +6,13 @@ use mathlib.Core.Bool.{Bool, true, false, not, _&&_, cond, and-false, and-true}
 use mathlib.Core.List.{List, [], _∷_, map}
 use mathlib.Core.Path.{_≡_, refl, sym, ap, _∙_}
 use lib.ListN.{length, take, drop, getD, length-drop, length-map}
-use lib.Seq.{length-take-le, drop-drop}
+use lib.Seq.{drop-drop}
 use lib.Dec.{leb, eqb}
 use borrow.Author.Needs.{needs}
 use borrow.Author.Tests.{le-leb, lt-leb, eq-eqb, ne-eqb, eqb-true, eqb-false, not-true, not-false}
 use Rattle.laws.specs.Lists.{all, empty, distinct, sameBytes}
 use Rattle.laws.proofs.Booleans.{left-of, right-of, both-of, held}
-use Rattle.laws.proofs.Places.{all-passes, all-fails, all-end, part-tail}
+use Rattle.laws.proofs.Places.{at-end, all-passes, all-fails, all-end, part-tail}
 use Rattle.laws.proofs.Tests.{and-step, no-here, call-not, call-yes, decide}
 use Rattle.laws.proofs.Same.{same-equal}
 use Rattle.names.specs.Name.{nameOk}
@@ -44,11 +44,15 @@ module _ (n : ℕ) (f : List ℕ) where
   unfolding fieldOk
   field-long h = simp (lt-leb n 64 h)
 
+  pub field-none : n ≤ 64 → length f < n → true ≡ fieldOk n f
+  unfolding fieldOk
+  field-none h l = rw (le-leb n 64 h, at-end f n (omega arith))
+
   pub field-rest : (z : Bool) → n ≤ 64 → z ≡ all zero? (take (length f - n) (drop n f)) → z ≡ fieldOk n f
   unfolding fieldOk
   field-rest z h q = q ∙ (rw (part-tail n f) (simp (le-leb n 64 h)))
 
-pub ruleset field-laws = (needs, field-long, field-rest)
+pub ruleset field-laws = (needs, field-long, field-none, field-rest)
 
 module _ (r : List ℕ) where
   pub fields-bad : (b : Bool) → b ≡ fieldOk (getD r 2 0) (take 64 (drop 4 r)) → not b ≡ true → false ≡ fieldsOk r
@@ -59,13 +63,7 @@ module _ (r : List ℕ) where
   unfolding fieldsOk
   fields-rest b d q t x = x ∙ (rw (part-tail 68 r) (simp (sym q ∙ not-false b t)))
 
-  pub second-long : length r ≡ 132 → length (take (length r - 68) (drop 68 r)) ≡ 64
-  second-long h = rw (part-tail 68 r) (omega (arith, length-drop 68 r))
-
-  pub first-long : length r ≡ 132 → length (take 64 (drop 4 r)) ≡ 64
-  first-long h = length-take-le 64 (drop 4 r) (omega (arith, length-drop 4 r))
-
-pub ruleset fields-laws = (needs, fields-bad, fields-rest, second-long, first-long)
+pub ruleset fields-laws = (needs, fields-bad, fields-rest)
 
 -- ---- one record: a conjunction whose first part is one too, and tests of the record's own names
 pub not-left : (a b : Bool) → a ≡ false → (a && b) ≡ false

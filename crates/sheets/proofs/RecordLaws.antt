@@ -33,7 +33,7 @@ drop-replicate (suc k) zero v = let q : 0 - suc k ≡ 0 = omega arith in rw q
 drop-replicate (suc k) (suc n) v = let q : suc n - suc k ≡ n - k = omega arith in rw q (drop-replicate k n v)
 
 -- a name put into zeros, n of them behind its field
-name-put : (p a : List ℕ) (n : ℕ) → length a ≤ 64 → put (p ++ replicate (64 + n) 0) (length p) a ≡ (p ++ field a) ++ replicate n 0
+pub name-put : (p a : List ℕ) (n : ℕ) → length a ≤ 64 → put (p ++ replicate (64 + n) 0) (length p) a ≡ (p ++ field a) ++ replicate n 0
 name-put p a n h =
     let q : 64 + n - length a ≡ (64 - length a) + n = omega arith in
     put-behind p (replicate (64 + n) 0) a
@@ -70,19 +70,24 @@ pub ruleset fill-laws = (needs, record-done)
 pub cut-whole : (n : List ℕ) → length n ≤ 64 → n ≡ take 64 n
 cut-whole n h = sym (take-all 64 n h)
 
-pub cut-long : (n : List ℕ) → 64 < length n → length (take 64 n) ≡ 64
-cut-long n h = length-take-le 64 n (omega arith)
-
 pub cut-short : (n : List ℕ) → length (take 64 n) ≤ 64
 cut-short n = omega (arith, length-take 64 n)
 
-pub ruleset cut-laws = (needs, cut-whole, cut-long, cut-short)
+-- as the caller has it
+pub cut-fits : (n c : List ℕ) → c ≡ take 64 n → length c ≤ 64
+cut-fits n c e = rw e (cut-short n)
+
+-- the whole name starts where it starts
+pub cut-from : (o : ℕ) → o ≡ o + 0
+cut-from o = omega arith
+
+pub ruleset cut-laws = (needs, cut-whole, cut-from, place-from)
 
 pub record-is : (id result : ℕ) (a x b y r : List ℕ) → b ≡ take 64 a → y ≡ take 64 x → r ≡ recordBytes id result b y → r ≡ recordOf id result a x
 unfolding recordOf
 record-is id result a x b y r p q e = e ∙ rw (p, q)
 
-pub ruleset record-laws = (needs, record-is)
+pub ruleset record-laws = (needs, cut-fits, record-is)
 
 -- for names that fit, `record_of` gives the record of document 01
 pub record-whole : (id result : ℕ) (a x : List ℕ) → length a ≤ 64 → length x ≤ 64 → recordOf id result a x ≡ recordBytes id result a x
@@ -112,7 +117,7 @@ part-long s at n h = rw add-sub-cancel-left (length-take-le n (drop at s) (omega
 pub ruleset part-laws = (needs, part-is, part-long, name-is)
 
 -- a name that a record gives fits its field
-cap-most : (n : ℕ) → cap n ≤ 64
+pub cap-most : (n : ℕ) → cap n ≤ 64
 unfolding cap
 cap-most n = go (leb n 64) refl
   where
@@ -120,7 +125,7 @@ cap-most n = go (leb n 64) refl
     go true q = leb-true n 64 q
     go false q = omega arith
 
-cut-at : (n : ℕ) (l : List ℕ) → length (take (cap n) l) ≤ 64
+pub cut-at : (n : ℕ) (l : List ℕ) → length (take (cap n) l) ≤ 64
 cut-at n l = let c = cap-most n in omega (arith, length-take (cap n) l)
 
 pub transfer-most : (r : List ℕ) → length (transferOf r) ≤ 64

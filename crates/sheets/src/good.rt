@@ -32,14 +32,16 @@ fn zeros(s: &[u8]) -> bool
 }
 
 // Whether the field behind a name of n bytes is unused.
-fn field_ok(n: u8, f: &[u8]) -> bool
-    requires { ⌜ length (now f) ≡ 64 ⌝ }
+pub fn field_ok(n: u8, f: &[u8]) -> bool
     ensures { λ r. ⌜ r ≡ fieldOk n (now (f .entry)) ⌝ }
 {
     if 64 < n {
         return false;
     }
     let k = n as usize;
+    if f.len() < k {
+        return true;
+    }
     zeros(&f[k..])
 }
 

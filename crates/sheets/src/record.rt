@@ -23,14 +23,14 @@ fn fill_record(id: u8, result: u8, a: &[u8], x: &[u8]) -> [u8; numbers::RECORD]
     s
 }
 
-// As much of a name as its field holds.
-fn cut(n: &[u8]) -> &[u8]
-    ensures { λ r. ⌜ (now r ≡ take 64 (now (n .entry))) × (length (now r) ≤ 64) ⌝ }
+// As much of a name as its field holds, its own part of the name.
+pub fn cut(n: &[u8]) -> &[u8]
+    ensures { λ r. ⌜ PartOf (n .entry) 0 (take 64 (now (n .entry))) r ⌝ }
 {
     if n.len() <= 64 {
         return n;
     }
-    &n[..64]
+    &n[0..64]
 }
 
 // A record with these names; of a name longer than its field the first 64 bytes.
@@ -49,7 +49,8 @@ pub(crate) fn record_at(s: &[u8], at: usize) -> &[u8]
     &s[at..e]
 }
 
-fn cap_of(n: u8) -> usize
+// A name's length in its field.
+pub fn cap_of(n: u8) -> usize
     ensures { λ r. ⌜ (r ≡ cap n) × (r ≤ 64) ⌝ }
 {
     if n <= 64 {

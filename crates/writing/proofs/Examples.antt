@@ -1,89 +1,69 @@
--- Case 3 and further examples: antt computes both sides.
+-- Examples of what is sent: antt computes both sides. (Case 3 is in Case3.)
 -- Assumes nothing.
 use Prim.Native.Nat.{ℕ}
 use mathlib.Core.Bool.{true, false}
 use mathlib.Core.List.{List, [], _∷_}
 use mathlib.Core.Path.{_≡_, refl}
-use lib.ListN.{length}
 use native.Mathlib.Omega.{arith}
-use Rattle.laws.specs.Lists.{among, distinct}
+use Rattle.laws.specs.Lists.{differ}
 use Rattle.laws.specs.Text.{bytes}
 use Rattle.numbers.specs.Refusals.{SHORT-OUTPUT, BAD-CONTENTS, LONG-PDU}
 use Rattle.octets.specs.Octets.{be16, be32}
 use Rattle.names.specs.Name.{nameOk}
-use Rattle.titles.specs.Title.{titleOk}
 use Rattle.items.specs.Wire.{itemBytes}
 use Rattle.pdvs.specs.Data.{pdvStep, pdvsIn, pdvs, pdvOk, pdvsOk}
 use Rattle.reasons.specs.Values.{abortOk}
-use Rattle.sheets.specs.Contexts.{contextOk, transferNameOk, answeredOk, contextsOk, allAnsweredOk}
-use Rattle.sheets.specs.Sheet.{recordBytes, recordsOf, cap, abstractOf, transferOf, goesOn, start, sheetRuns, contextsIn, answeredOf, answersIn, fieldOk, fieldsOk, proposes, answers, proposalOk, answersOk}
-use Rattle.writing.specs.Fields.{rejectOf, itemsOf, abortOf, rqGood, acGood, itemsGood, abortGood}
+use Rattle.sheets.specs.Sheet.{cap, fieldOk}
+use Rattle.roles.specs.Role.{Role, roleOk, rolesOk}
+use Rattle.roles.specs.Sheet.{roleBytes, roleSheet, roleRecords, roleIn, rolesIn, unusedZero, roleSheetOk}
+use Rattle.user_items.specs.Kinds.{versionOk}
+use Rattle.user_items.specs.Sent.{User, userOf, userGood, countOk, roleBody, countItems, roleItems, versionItems, subItems, userBytes}
+use Rattle.writing.specs.Fields.{rejectOf, itemsOf, abortOf, itemsGood, abortGood}
 use Rattle.writing.specs.Ten.{REJECT-VERSION, tens, tenOf, rejectBytes}
-use Rattle.writing.specs.Wire.{pduBytes, associateItems, associateBytes, ourUser, contextBody, answerBody, rqPdu, acPdu}
-use Rattle.writing.specs.Form.{formRefusal, sentBytes, rqForm, acForm, rejectForm, mostOf, dataForm, abortForm}
-use Rattle.writing.specs.Cases.{asking, accepting, Case3}
-use Rattle.writing.proofs.FormLaws.{refusal-0, refusal-2}
+use Rattle.writing.specs.Wire.{pduBytes, answerBody}
+use Rattle.writing.specs.Form.{formRefusal, sentBytes, rejectForm, mostOf, dataForm, abortForm}
+use Rattle.writing.specs.Cases.{rolesSize, added, Case3}
+use Rattle.writing.proofs.Case3.{case-3}
 
--- ---- case 3
+-- ---- the user information with all sub-items
+abbrev two-roles : List Role
+two-roles = record { uid = bytes "1.2"; scu = 1; scp = 0 } ∷ record { uid = bytes "1.2.3"; scu = 0; scp = 1 } ∷ []
 
--- the contexts that the sheets have
-asked : contextsIn (asking .sheet) ≡ record { id = 1; abstr = bytes "1.2.840.10008.1.1"; transfers = bytes "1.2.840.10008.1.2" ∷ [] } ∷ []
-unfolding asking recordBytes contextsIn recordsOf sheetRuns start goesOn abstractOf transferOf cap
-asked = refl
+abbrev pub full : User
+full = userOf (bytes "1.2.3") (bytes "FEO 1") 0 1 (roleSheet two-roles)
 
-answered : answersIn (accepting .sheet) ≡ record { id = 1; result = 0; transfer = bytes "1.2.840.10008.1.2" } ∷ []
-unfolding accepting recordBytes answersIn recordsOf answeredOf transferOf cap
-answered = refl
+full-roles : rolesIn (full .roles) ≡ two-roles
+unfolding rolesIn roleRecords roleIn roleSheet roleBytes cap
+full-roles = refl
 
--- the contents are good
-asking-sheet : proposalOk (asking .sheet) ≡ true
-unfolding proposalOk proposes fieldsOk fieldOk contextsOk contextOk nameOk distinct among
-asking-sheet = rw asked (unfold asking recordBytes recordsOf in refl)
+full-sheet : roleSheetOk (full .roles) ≡ true
+unfolding roleSheetOk rolesOk roleOk nameOk differ
+full-sheet = rw full-roles (unfold roleSheet roleBytes roleRecords unusedZero fieldOk in refl)
 
-accepting-sheet : answersOk (accepting .sheet) ≡ true
-unfolding answersOk answers fieldsOk fieldOk allAnsweredOk answeredOk transferNameOk nameOk distinct among
-accepting-sheet = rw answered (unfold accepting recordBytes recordsOf in refl)
+full-good : userGood full ≡ true
+unfolding userGood nameOk versionOk countOk
+full-good = rw full-sheet
 
-asking-good : rqForm asking .good ≡ true
-unfolding rqForm rqGood titleOk nameOk
-asking-good = rw asking-sheet (unfold asking in refl)
+-- the 50H: 62 bytes, in rising type order
+pub full-bytes
+    : itemBytes 0x50 (userBytes full)
+    ≡ 0x50 ∷ 0 ∷ 0 ∷ 0x3A
+    ∷ 0x51 ∷ 0 ∷ 0 ∷ 4 ∷ 0 ∷ 0 ∷ 0x40 ∷ 0
+    ∷ 0x52 ∷ 0 ∷ 0 ∷ 5 ∷ 0x31 ∷ 0x2E ∷ 0x32 ∷ 0x2E ∷ 0x33
+    ∷ 0x53 ∷ 0 ∷ 0 ∷ 4 ∷ 0 ∷ 0 ∷ 0 ∷ 1
+    ∷ 0x54 ∷ 0 ∷ 0 ∷ 7 ∷ 0 ∷ 3 ∷ 0x31 ∷ 0x2E ∷ 0x32 ∷ 1 ∷ 0
+    ∷ 0x54 ∷ 0 ∷ 0 ∷ 9 ∷ 0 ∷ 5 ∷ 0x31 ∷ 0x2E ∷ 0x32 ∷ 0x2E ∷ 0x33 ∷ 0 ∷ 1
+    ∷ 0x55 ∷ 0 ∷ 0 ∷ 5 ∷ 0x46 ∷ 0x45 ∷ 0x4F ∷ 0x20 ∷ 0x31 ∷ []
+unfolding userBytes subItems countItems roleItems versionItems roleBody itemBytes
+full-bytes = rw full-roles
 
-accepting-good : acForm accepting .good ≡ true
-unfolding acForm acGood nameOk
-accepting-good = rw accepting-sheet (unfold accepting in refl)
+-- in case 3 it adds 9 + 8 + 11 + 13 + 9
+pub full-added : added full ≡ 50
+unfolding added rolesSize
+full-added = rw full-roles
 
--- the bytes
-asking-length : be32 (rqForm asking .pdu) 2 ≡ 155
-unfolding rqForm associateBytes pduBytes rqPdu associateItems contextBody ourUser itemBytes be32 be16
-asking-length = rw asked (unfold asking in refl)
-
-asking-bytes : length (rqForm asking .pdu) ≡ 161
-unfolding rqForm associateBytes pduBytes rqPdu associateItems contextBody ourUser itemBytes
-asking-bytes = rw asked (unfold asking in refl)
-
-accepting-length : be32 (acForm accepting .pdu) 2 ≡ 134
-unfolding acForm associateBytes pduBytes acPdu associateItems answerBody ourUser itemBytes be32 be16
-accepting-length = rw answered (unfold accepting in refl)
-
-accepting-bytes : length (acForm accepting .pdu) ≡ 140
-unfolding acForm associateBytes pduBytes acPdu associateItems answerBody ourUser itemBytes
-accepting-bytes = rw answered (unfold accepting in refl)
-
-pub case-3 : Case3
-unfolding rqForm acForm
-case-3 =
-    let n = asking-bytes in
-    let m = accepting-bytes in
-    record {
-      rq-length = asking-length;
-      rq-bytes = asking-bytes;
-      rq-sent = refusal-0 (rqForm asking) 161 asking-good (omega arith) (omega arith);
-      rq-short = refusal-2 (rqForm asking) 160 asking-good (omega arith) (omega arith);
-      ac-length = accepting-length;
-      ac-bytes = accepting-bytes;
-      ac-sent = refusal-0 (acForm accepting) 140 accepting-good (omega arith) (omega arith);
-      ac-short = refusal-2 (acForm accepting) 139 accepting-good (omega arith) (omega arith);
-    }
+pub full-case : Case3 full
+full-case = let e = full-added in case-3 full full-good (omega arith)
 
 -- ---- the refusals come in the order 4, 5, 2
 

@@ -8,7 +8,7 @@ use mathlib.Core.List.{List, [], _∷_, _++_, map}
 use mathlib.Core.Path.{_≡_, refl, ap}
 use lib.ListN.{length, replicate, length-append}
 use lib.Dec.{leb}
-use Rattle.laws.specs.Lists.{all, distinct, joined}
+use Rattle.laws.specs.Lists.{all, distinct}
 use Rattle.laws.proofs.Booleans.{left-of, right-of}
 use Rattle.names.specs.Name.{nameOk}
 use Rattle.titles.specs.Title.{titleOk}
@@ -24,6 +24,7 @@ use Rattle.sheets.specs.Record.{recordAt}
 use Rattle.sheets.proofs.RecordLaws.{record-length}
 use Rattle.sheets.proofs.GoodLaws.{bad-record}
 use Rattle.sheets.proofs.Inverse.{proposal-contexts, proposal-back}
+use Rattle.user_items.specs.Sent.{userGood, userBytes}
 use Rattle.writing.specs.Fields.{RqFields, rqGood}
 use Rattle.writing.specs.Wire.{associateItems, associateBytes, pduBytes, contextBody, rqPdu}
 use Rattle.writing.specs.Form.{rqForm, formRefusal}
@@ -74,14 +75,14 @@ pdu-long : (f : RqFields) → length (itemsBytes 0x20 (map contextBody (contexts
 unfolding rqForm associateBytes pduBytes associateItems rqPdu
 pdu-long f =
     let a = length-append (f .called ++ (f .calling ++ replicate 32 0)) (associateItems (rqPdu f)) in
-    let b = length-append (itemBytes 0x10 (f .application)) (itemsBytes 0x20 (map contextBody (contextsIn (f .sheet))) ++ itemBytes 0x50 (joined (rqPdu f .user))) in
-    let c = length-append (itemsBytes 0x20 (map contextBody (contextsIn (f .sheet)))) (itemBytes 0x50 (joined (rqPdu f .user))) in
+    let b = length-append (itemBytes 0x10 (f .application)) (itemsBytes 0x20 (map contextBody (contextsIn (f .sheet))) ++ itemBytes 0x50 (userBytes (f .user))) in
+    let c = length-append (itemsBytes 0x20 (map contextBody (contextsIn (f .sheet)))) (itemBytes 0x50 (userBytes (f .user))) in
     omega arith
 
 pub many-records : (f : RqFields) (room : ℕ) → rqGood f ≡ true → 4096 < length (f .sheet) / RECORD → formRefusal (rqForm f) room ≡ LONG-PDU
 unfolding rqForm rqGood contextsOk
 many-records f room g h =
-    let s : proposalOk (f .sheet) ≡ true = right-of (nameOk (f .application)) _ (right-of (titleOk (f .calling)) _ (right-of (titleOk (f .called)) _ g)) in
+    let s : proposalOk (f .sheet) ≡ true = right-of (userGood (f .user)) _ (right-of (nameOk (f .application)) _ (right-of (titleOk (f .calling)) _ (right-of (titleOk (f .called)) _ g))) in
     let k : all contextOk (contextsIn (f .sheet)) ≡ true = left-of _ (distinct (map contextId (contextsIn (f .sheet)))) (right-of (leb 1 (length (contextsIn (f .sheet)))) _ (proposal-contexts (f .sheet) s)) in
     let l = sheet-long (contextsIn (f .sheet)) k in
     let b = ap length (proposal-back (f .sheet) s) in

@@ -1,7 +1,7 @@
 -- The bytes of an A-ASSOCIATE-RQ and -AC: "We send version 1, maximum 16,384, items in the order above, no skipped types, reserved bytes zero except the AC's fields
 -- that Table 9-17 wants as received". The user information is that of user_items.
 use Prim.Native.Nat.{ℕ}
-use mathlib.Core.List.{List, [], _∷_, _++_, map}
+use mathlib.Core.List.{List, _∷_, _++_, map}
 use lib.ListN.{length, replicate}
 use Rattle.numbers.specs.Kinds.{ASSOCIATE-RQ, ASSOCIATE-AC}
 use Rattle.octets.specs.Octets.{four}

@@ -8,5 +8,5 @@ pub field-ok-spec : {M : Type 1} → statement M
 field-ok-spec =
     tie.close
     (tie.spec
-    (λ c. search field-laws) (λ c. search field-laws) (λ c. search field-laws)  -- returns, sub-zeros, part-zeros-start
-    (λ c. search field-laws) (λ c κs. search field-laws) (λ c. search field-laws))  -- part-zeros-end, zeros-requires, returns-2
+    (λ c. search field-laws) (λ c. search field-laws) (λ c. search field-laws) (λ c. search field-laws)  -- returns, returns-2, sub-zeros, part-zeros-start
+    (λ c. search field-laws) (λ c κs. search field-laws) (λ c. search field-laws))  -- part-zeros-end, zeros-requires, returns-3

@@ -8,4 +8,5 @@ pub cut-spec : {M : Type 1} → statement M
 cut-spec =
     tie.close
     (tie.spec
-    (λ c. search cut-laws) (λ c. search cut-laws) (λ c. search cut-laws))  -- returns, slice-aggregate-result, returns-2
+    (λ c. search cut-laws) (λ c. search cut-laws) (λ c. search cut-laws) (λ c. search cut-laws)  -- returns, sub-result, part-result-start, part-result-end
+    (λ c. search cut-laws))  -- returns-2
