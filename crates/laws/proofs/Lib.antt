@@ -5,6 +5,7 @@ pub mod Places
 pub mod Parts
 pub mod Records
 pub mod Same
+pub mod Differ
 pub mod Below
 pub mod Refusals
 pub mod Agree

@@ -2,8 +2,12 @@
 -- Assumes nothing.
 use Rattle.laws.proofs.Agree.{agree, Agrees, AgreesPart}
 use Rattle.octets.proofs.SliceLaws.{parts-agree}
+use Rattle.roles.proofs.good.roles_ok as roles-ok
 use Rattle.roles.proofs.record.role_of as role-of
 use Rattle.roles.proofs.record.uid_at as uid-at
+
+pub roles-ok-agrees : Agrees 1 roles-ok.Kinds.ps roles-ok.Kinds.r roles-ok.Reads.Post
+roles-ok-agrees κs args a b x y p q = agree p q
 
 pub role-of-agrees : Agrees 1 role-of.Kinds.ps role-of.Kinds.r role-of.Reads.Post
 role-of-agrees κs args a b x y p q = agree p q

@@ -1,2 +1,5 @@
 pub mod RecordLaws
+pub mod GoodLaws
+pub mod Inverse
 pub mod Agree
+pub mod Examples

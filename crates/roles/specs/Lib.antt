@@ -1,3 +1,4 @@
 pub mod Role
 pub mod Sheet
 pub mod Record
+pub mod Private

@@ -130,7 +130,7 @@ pub ruleset all-laws = (needs, all-next, all-bad, all-done)
 -- ---- records tested one by one give the rule over the contexts
 
 -- a conjunction of conjunctions, the other way round
-across : (a b c d : Bool) → ((a && b) && (c && d)) ≡ ((a && c) && (b && d))
+pub across : (a b c d : Bool) → ((a && b) && (c && d)) ≡ ((a && c) && (b && d))
 across true true c d = refl
 across true false true d = refl
 across true false false d = refl
@@ -196,7 +196,7 @@ records-answer [] = refl
 records-answer (r ∷ rs) = rw (records-answer rs) (across (answers r) (answeredOk (answeredOf r)) (all answers rs) (all answeredOk (map answeredOf rs)))
 
 -- ---- `sheet_ok`
-together : (p c d : Bool) → (p && (c && d)) ≡ ((p && c) && d)
+pub together : (p c d : Bool) → (p && (c && d)) ≡ ((p && c) && d)
 together true c d = refl
 together false c d = refl
 

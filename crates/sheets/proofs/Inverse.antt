@@ -1,6 +1,6 @@
 -- Sheets and contexts are inverse where they are good: a good sheet's contexts give back the sheet, and good contexts are those of their sheet, which is good.
 -- Assumes nothing.
-use Prim.Native.Nat.{ℕ, zero, suc, _-_, _*_, _/_, _%_, _≤_}
+use Prim.Native.Nat.{ℕ, zero, suc, _-_, _*_, _%_, _≤_}
 use native.Mathlib.Omega.{arith}
 use mathlib.Core.Bool.{Bool, true, false, not, _&&_, _||_, cond}
 use mathlib.Core.List.{List, [], _∷_, _++_, map, append-assoc}
@@ -9,9 +9,10 @@ use lib.ListN.{length, take, drop, getD, replicate, length-append, length-drop, 
 use lib.Seq.{take-take, take-at, drop-at, drop-drop, length-take-le}
 use lib.Dec.{leb, eqb}
 use borrow.Author.Tests.{le-leb, eq-eqb, leb-true, eqb-true, not-true}
-use Rattle.laws.specs.Lists.{all, empty, records, sameBytes, among, distinct}
+use Rattle.laws.specs.Lists.{all, empty, sameBytes, among, distinct}
 use Rattle.laws.proofs.Booleans.{left-of, right-of, both-of, held, holds}
 use Rattle.laws.proofs.Same.{same-equal, same-self}
+use Rattle.laws.proofs.Records.{Good, Sheeted, good, sheet-back, in-front, rows-front, sheeted-good}
 use Rattle.names.specs.Name.{nameOk}
 use Rattle.names.proofs.NameLaws.{name-short}
 use Rattle.numbers.specs.Lengths.{RECORD}
@@ -20,7 +21,7 @@ use Rattle.octets.specs.Octets.{odd}
 use Rattle.sheets.specs.Contexts.{Context, Answered, contextId, answeredId, contextOk, transferNameOk, answeredOk, contextsOk, allAnsweredOk}
 use Rattle.sheets.specs.Sheet.{field, recordBytes, contextRecords, sheetOf, answerSheetOf, recordsOf, recordId, abstractOf, transferOf, goesOn, firstTransfers, others, start, sheetRuns, contextsIn, answeredOf, answersIn, zero?, fieldOk, fieldsOk, proposes, siteRecord, answers, proposalOk, answersOk, siteOk}
 use Rattle.sheets.proofs.RecordLaws.{cap-low, field-length, record-length}
-use Rattle.sheets.proofs.RunLaws.{records-cons, no-run}
+use Rattle.sheets.proofs.RunLaws.{no-run}
 
 -- a transfer name fits its field, for each result
 pub transfer-fits : (result : ℕ) (x : List ℕ) → transferNameOk result x ≡ true → length x ≤ 64
@@ -45,13 +46,13 @@ module _ (n : ℕ) (f : List ℕ) (l : length f ≡ 64) (k : fieldOk n f ≡ tru
   unfolding fieldOk
   field-parts = k
 
-  field-small : n ≤ 64
+  pub field-small : n ≤ 64
   field-small = leb-true n 64 (left-of _ _ field-parts)
 
-  used-length : length (take n f) ≡ n
+  pub used-length : length (take n f) ≡ n
   used-length = let s = field-small in length-take-le n f (omega arith)
 
-  field-back : field (take n f) ≡ f
+  pub field-back : field (take n f) ≡ f
   field-back =
       let s = field-small in
       let z = zeros-are (drop n f) (right-of (leb n 64) _ field-parts) in
@@ -59,7 +60,7 @@ module _ (n : ℕ) (f : List ℕ) (l : length f ≡ 64) (k : fieldOk n f ≡ tru
       let w : replicate (64 - length (take n f)) 0 ≡ drop n f = ap (λ (m : ℕ). replicate m 0) (sym d) ∙ sym z in
       ap (λ (m : List ℕ). take n f ++ m) w ∙ take-append-drop n f
 
-four-first : (s : List ℕ) → 4 ≤ length s → s ≡ getD s 0 0 ∷ getD s 1 0 ∷ getD s 2 0 ∷ getD s 3 0 ∷ drop 4 s
+pub four-first : (s : List ℕ) → 4 ≤ length s → s ≡ getD s 0 0 ∷ getD s 1 0 ∷ getD s 2 0 ∷ getD s 3 0 ∷ drop 4 s
 four-first [] h = absurd (omega arith)
 four-first (a ∷ []) h = absurd (omega arith)
 four-first (a ∷ b ∷ []) h = absurd (omega arith)
@@ -134,36 +135,11 @@ answers-back-one r l k =
     let n : abstractOf r ≡ [] = rw (z, ← cap-low 0 (omega arith)) in
     ap (λ (a : List ℕ). recordBytes (recordId r) (getD r 1 0) a (transferOf r)) (sym n) ∙ record-back r l (right-of (eqb (getD r 2 0) 0) _ k)
 
--- records that are the bytes of what each says: all of a sheet's are the sheet
-module _ {C : Type 0} (form : List ℕ → Bool) (of : List (List ℕ) → List C) (bytes : List C → List ℕ) (none : bytes (of []) ≡ [])
-    (one : (r : List ℕ) (rs : List (List ℕ)) → length r ≡ 132 → form r ≡ true → bytes (of (r ∷ rs)) ≡ r ++ bytes (of rs)) where
-  -- n of them
-  rows-back : (n : ℕ) (s : List ℕ) → length s ≡ 132 * n → all form (records 132 n s) ≡ true → bytes (of (records 132 n s)) ≡ s
-  rows-back zero [] l k = none
-  rows-back zero (x ∷ s) l k = absurd (omega arith)
-  rows-back (suc n) s l k =
-      one (take 132 s) (records 132 n (drop 132 s)) (length-take-le 132 s (omega arith)) (left-of _ _ k)
-      ∙ (ap (λ (m : List ℕ). take 132 s ++ m) (rows-back n (drop 132 s) (omega (arith, length-drop 132 s)) (right-of (form (take 132 s)) _ k)) ∙ take-append-drop 132 s)
-
-  sheet-back : (s : List ℕ) → length s % 132 ≡ 0 → all form (recordsOf s) ≡ true → bytes (of (recordsOf s)) ≡ s
-  unfolding recordsOf
-  sheet-back s m k = rows-back (length s / 132) s (omega arith) k
-
 -- ---- what a good sheet has
-record Good (form : List ℕ → Bool) (ok : Bool) (s : List ℕ) : Type 0 where
-  whole : length s % 132 ≡ 0
-  formed : all form (recordsOf s) ≡ true
-  holds : ok ≡ true
-
-good : (form : List ℕ → Bool) (ok : Bool) (s : List ℕ) → (eqb (length s % 132) 0 && (all form (recordsOf s) && ok)) ≡ true → Good form ok s
-good form ok s k =
-    let r : (all form (recordsOf s) && ok) ≡ true = right-of (eqb (length s % 132) 0) _ k in
-    record { whole = eqb-true _ _ (left-of _ (all form (recordsOf s) && ok) k); formed = left-of _ _ r; holds = right-of (all form (recordsOf s)) _ r }
-
 module _ (s : List ℕ) (k : proposalOk s ≡ true) where
-  proposal-good : Good proposes (contextsOk (contextsIn s)) s
-  unfolding proposalOk
-  proposal-good = good proposes (contextsOk (contextsIn s)) s k
+  proposal-good : Good 132 proposes (contextsOk (contextsIn s)) s
+  unfolding proposalOk recordsOf
+  proposal-good = good 132 proposes (contextsOk (contextsIn s)) s k
 
   pub proposal-whole : length s % 132 ≡ 0
   proposal-whole = proposal-good .whole
@@ -172,15 +148,15 @@ module _ (s : List ℕ) (k : proposalOk s ≡ true) where
   proposal-contexts = proposal-good .holds
 
   pub proposal-back : sheetOf (contextsIn s) ≡ s
-  unfolding contextsIn sheetRuns sheetOf
+  unfolding contextsIn recordsOf sheetRuns sheetOf
   proposal-back =
-      sheet-back proposes sheetRuns sheetOf refl (λ r rs l g. start-back r (sheetRuns rs) ∙ ap (λ (b : List ℕ). b ++ sheetOf (sheetRuns rs)) (proposes-back r l g))
+      sheet-back 132 proposes sheetRuns sheetOf refl (λ r rs l g. start-back r (sheetRuns rs) ∙ ap (λ (b : List ℕ). b ++ sheetOf (sheetRuns rs)) (proposes-back r l g))
       s proposal-whole (proposal-good .formed)
 
 module _ (s : List ℕ) (k : answersOk s ≡ true) where
-  answers-good : Good answers (allAnsweredOk (answersIn s)) s
-  unfolding answersOk
-  answers-good = good answers (allAnsweredOk (answersIn s)) s k
+  answers-good : Good 132 answers (allAnsweredOk (answersIn s)) s
+  unfolding answersOk recordsOf
+  answers-good = good 132 answers (allAnsweredOk (answersIn s)) s k
 
   pub answers-whole : length s % 132 ≡ 0
   answers-whole = answers-good .whole
@@ -189,9 +165,9 @@ module _ (s : List ℕ) (k : answersOk s ≡ true) where
   answers-answered = answers-good .holds
 
   pub answer-sheet-back : answerSheetOf (answersIn s) ≡ s
-  unfolding answersIn answeredOf answerSheetOf
+  unfolding answersIn recordsOf answeredOf answerSheetOf
   answer-sheet-back =
-      sheet-back answers (map answeredOf) answerSheetOf refl (λ r rs l g. ap (λ (b : List ℕ). b ++ answerSheetOf (map answeredOf rs)) (answers-back-one r l g))
+      sheet-back 132 answers (map answeredOf) answerSheetOf refl (λ r rs l g. ap (λ (b : List ℕ). b ++ answerSheetOf (map answeredOf rs)) (answers-back-one r l g))
       s answers-whole (answers-good .formed)
 
 -- ---- an answer takes one record
@@ -236,7 +212,7 @@ zeros-good : (n : ℕ) → all zero? (replicate n 0) ≡ true
 zeros-good zero = refl
 zeros-good (suc n) = zeros-good n
 
-field-good : (a : List ℕ) → length a ≤ 64 → fieldOk (length a) (field a) ≡ true
+pub field-good : (a : List ℕ) → length a ≤ 64 → fieldOk (length a) (field a) ≡ true
 unfolding fieldOk
 field-good a h = both-of _ _ (le-leb (length a) 64 h) (ap (all zero?) (drop-at a (replicate (64 - length a) 0) (length a) refl) ∙ zeros-good (64 - length a))
 
@@ -246,34 +222,16 @@ fields-good id result a x h l =
     both-of _ _ (ap (fieldOk (length a)) (take-at (field a) (field x) 64 (field-length a h)) ∙ field-good a h)
     (ap (fieldOk (length x)) (behind-abstract id result a x h l) ∙ field-good x l)
 
--- a record in front of a sheet
-records-front : (r s : List ℕ) → length r ≡ 132 → recordsOf (r ++ s) ≡ r ∷ recordsOf s
-records-front r s l = records-cons (r ++ s) (omega (arith, length-append r s)) ∙ rw (take-at r s 132 l, drop-at r s 132 l)
-
--- ---- a sheet whose records have a form, and from which cs are read
-record Sheeted {C : Type 0} (form : List ℕ → Bool) (of : List ℕ → List C) (s : List ℕ) (cs : List C) : Type 0 where
-  whole : length s % 132 ≡ 0
-  formed : all form (recordsOf s) ≡ true
-  back : of s ≡ cs
-
--- with one record in front
-in-front : {C : Type 0} (form : List ℕ → Bool) (of : List ℕ → List C) (r s : List ℕ) (cs ds : List C) → length r ≡ 132 → form r ≡ true → of (r ++ s) ≡ ds
-    → Sheeted form of s cs → Sheeted form of (r ++ s) ds
-in-front form of r s cs ds l g b w =
-    let n = length-append r s in
-    let k = w .whole in
-    record { whole = omega arith; formed = rw (records-front r s l) (both-of _ _ g (w .formed)); back = b }
-
 -- ---- good contexts are those of their sheet
 abbrev Proposing : List ℕ → List Context → Type 0
-Proposing = Sheeted proposes contextsIn
+Proposing = Sheeted 132 proposes contextsIn
 
 sheeted-row : (id : ℕ) (a x s : List ℕ) (cs : List Context) → length a ≤ 64 → length x ≤ 64 → Proposing s cs → Proposing (recordBytes id 0 a x ++ s) (start (recordBytes id 0 a x) cs)
-unfolding contextsIn sheetRuns proposes recordBytes
+unfolding contextsIn recordsOf sheetRuns proposes recordBytes
 sheeted-row id a x s cs h l w =
     let m = record-length id 0 a x h l in
-    in-front proposes contextsIn (recordBytes id 0 a x) s cs (start (recordBytes id 0 a x) cs) m (fields-good id 0 a x h l)
-    (ap sheetRuns (records-front (recordBytes id 0 a x) s m) ∙ ap (start (recordBytes id 0 a x)) (w .back)) w
+    in-front 132 (omega arith) proposes contextsIn (recordBytes id 0 a x) s cs (start (recordBytes id 0 a x) cs) m (fields-good id 0 a x h l)
+    (ap sheetRuns (rows-front 132 (omega arith) (recordBytes id 0 a x) s m) ∙ ap (start (recordBytes id 0 a x)) (w .back)) w
 
 -- the record of a context that is none of cs starts one of its own; of the first of cs, it goes into it
 new-run : (id : ℕ) (a x : List ℕ) (cs : List Context) → length a ≤ 64 → length x ≤ 64 → among id (map contextId cs) ≡ false
@@ -348,24 +306,22 @@ module _ (cs : List Context) (k : contextsOk cs ≡ true) where
   contexts-back = contexts-sheeted .back
 
   pub contexts-proposal : proposalOk (sheetOf cs) ≡ true
-  unfolding proposalOk
-  contexts-proposal =
-      let w = contexts-sheeted in
-      both-of _ _ (eq-eqb (length (sheetOf cs) % 132) 0 (w .whole)) (both-of _ _ (w .formed) (ap contextsOk (w .back) ∙ k))
+  unfolding proposalOk recordsOf
+  contexts-proposal = sheeted-good 132 proposes contextsIn contextsOk (sheetOf cs) cs contexts-sheeted k
 
 -- ---- and good answers those of theirs
 abbrev Answering : List ℕ → List Answered → Type 0
-Answering = Sheeted answers answersIn
+Answering = Sheeted 132 answers answersIn
 
 answering-row : (c : Answered) (s : List ℕ) (cs : List Answered) → length (c .transfer) ≤ 64 → Answering s cs → Answering (recordBytes (c .id) (c .result) [] (c .transfer) ++ s) (c ∷ cs)
-unfolding answersIn answeredOf answers recordBytes
+unfolding answersIn recordsOf answeredOf answers recordBytes
 answering-row c s cs l w =
     let h : length {A = ℕ} [] ≤ 64 = omega arith in
     let m = record-length (c .id) (c .result) [] (c .transfer) h l in
     let q = transfer-back (c .id) (c .result) [] (c .transfer) h l in
     let b = w .back in
-    in-front answers answersIn (recordBytes (c .id) (c .result) [] (c .transfer)) s cs (c ∷ cs) m (fields-good (c .id) (c .result) [] (c .transfer) h l)
-    (ap (map answeredOf) (records-front (recordBytes (c .id) (c .result) [] (c .transfer)) s m) ∙ (λ i. record { id = c .id; result = c .result; transfer = q i } ∷ b i)) w
+    in-front 132 (omega arith) answers answersIn (recordBytes (c .id) (c .result) [] (c .transfer)) s cs (c ∷ cs) m (fields-good (c .id) (c .result) [] (c .transfer) h l)
+    (ap (map answeredOf) (rows-front 132 (omega arith) (recordBytes (c .id) (c .result) [] (c .transfer)) s m) ∙ (λ i. record { id = c .id; result = c .result; transfer = q i } ∷ b i)) w
 
 answering : (cs : List Answered) → all answeredOk cs ≡ true → Answering (answerSheetOf cs) cs
 unfolding answerSheetOf answersIn recordsOf
@@ -384,7 +340,5 @@ module _ (cs : List Answered) (k : allAnsweredOk cs ≡ true) where
   answered-back = answered-sheet .back
 
   pub answered-answers : answersOk (answerSheetOf cs) ≡ true
-  unfolding answersOk
-  answered-answers =
-      let w = answered-sheet in
-      both-of _ _ (eq-eqb (length (answerSheetOf cs) % 132) 0 (w .whole)) (both-of _ _ (w .formed) (ap allAnsweredOk (w .back) ∙ k))
+  unfolding answersOk recordsOf
+  answered-answers = sheeted-good 132 answers answersIn allAnsweredOk (answerSheetOf cs) cs answered-sheet k

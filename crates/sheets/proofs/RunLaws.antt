@@ -1,17 +1,18 @@
 -- Laws of the contexts of a sheet: what a record at a place does to the contexts from there on, and the loops that look for an ID that comes twice.
 -- Assumes nothing.
-use Prim.Native.Nat.{ℕ, suc, _+_, _-_, _/_, _%_, _≤_, _<_}
+use Prim.Native.Nat.{ℕ, _+_, _%_, _≤_, _<_}
 use native.Mathlib.Omega.{arith}
 use mathlib.Core.Bool.{Bool, true, false, not, _&&_, _||_, cond}
 use mathlib.Core.List.{List, [], _∷_, map}
 use mathlib.Core.Path.{_≡_, refl, sym, ap, _∙_}
 use lib.ListN.{length, take, drop, getD, length-drop}
-use lib.Seq.{drop-drop, getD-take, getD-drop}
+use lib.Seq.{getD-take, getD-drop}
 use lib.Dec.{leb, eqb}
 use borrow.Author.Needs.{needs}
 use borrow.Author.Tests.{eq-eqb, ne-eqb, leb-true, leb-false, eqb-true, not-true, not-false}
 use Rattle.laws.specs.Lists.{sameBytes, among, distinct}
 use Rattle.laws.proofs.Booleans.{left-of, held}
+use Rattle.laws.proofs.Records.{rows-cons, rows-none, row-here}
 use Rattle.sheets.specs.Contexts.{Context, contextId}
 use Rattle.sheets.specs.Sheet.{recordId, abstractOf, recordsOf, goesOn, others, start, sheetRuns, contextsIn, answeredOf, answersIn}
 use Rattle.sheets.specs.Record.{recordAt, goesOnAt}
@@ -21,16 +22,15 @@ use Rattle.sheets.proofs.RecordLaws.{abstract-here}
 -- ---- the records of a sheet, from a place on
 pub records-cons : (s : List ℕ) → 132 ≤ length s → recordsOf s ≡ take 132 s ∷ recordsOf (drop 132 s)
 unfolding recordsOf
-records-cons s h =
-    let q : length s / 132 ≡ suc ((length s - 132) / 132) = omega arith in
-    rw (q, length-drop)
+records-cons = rows-cons 132 (omega arith)
 
 pub records-none : (s : List ℕ) → length s < 132 → recordsOf s ≡ []
 unfolding recordsOf
-records-none s h = let q : length s / 132 ≡ 0 = omega arith in rw q
+records-none = rows-none 132 (omega arith)
 
 pub record-here : (s : List ℕ) (at : ℕ) → at + 132 ≤ length s → recordsOf (drop at s) ≡ recordAt s at ∷ recordsOf (drop (at + 132) s)
-record-here s at h = rw (records-cons (drop at s) (omega (arith, length-drop at s)), drop-drop)
+unfolding recordsOf
+record-here = row-here 132 (omega arith)
 
 pub contexts-here : (s : List ℕ) (at : ℕ) → at + 132 ≤ length s → contextsIn (drop at s) ≡ start (recordAt s at) (contextsIn (drop (at + 132) s))
 unfolding contextsIn sheetRuns
