@@ -30,15 +30,25 @@ title-good : (t : List ℕ) → length t ≡ 16 → all titleByte t ≡ true →
 unfolding titleOk
 title-good t l e = simp (eq-eqb _ _ l, e)
 
+-- a byte that no title has
 module _ (t : List ℕ) (i : ℕ) (v : all titleByte (drop i t) ≡ all titleByte t) where
+  pub byte-low : i < length t → getD t i 0 < 0x20 → all titleByte t ≡ false
+  byte-low h l = sym v ∙ all-fails titleByte t i h (simp (lt-leb _ _ l))
+
+  pub byte-high : i < length t → 0x7E < getD t i 0 → all titleByte t ≡ false
+  byte-high h l = sym v ∙ all-fails titleByte t i h (simp (lt-leb _ _ l, and-false))
+
+  pub byte-backslash : i < length t → getD t i 0 ≡ 0x5C → all titleByte t ≡ false
+  byte-backslash h e = sym v ∙ all-fails titleByte t i h (simp (eq-eqb _ _ e, and-false))
+
   pub title-low : i < length t → getD t i 0 < 0x20 → false ≡ titleOk t
-  title-low h l = title-bad t (sym v ∙ all-fails titleByte t i h (simp (lt-leb _ _ l)))
+  title-low h l = title-bad t (byte-low h l)
 
   pub title-high : i < length t → 0x7E < getD t i 0 → false ≡ titleOk t
-  title-high h l = title-bad t (sym v ∙ all-fails titleByte t i h (simp (lt-leb _ _ l, and-false)))
+  title-high h l = title-bad t (byte-high h l)
 
   pub title-backslash : i < length t → getD t i 0 ≡ 0x5C → false ≡ titleOk t
-  title-backslash h e = title-bad t (sym v ∙ all-fails titleByte t i h (simp (eq-eqb _ _ e, and-false)))
+  title-backslash h e = title-bad t (byte-backslash h e)
 
   pub title-next : i < length t → 0x20 ≤ getD t i 0 → getD t i 0 ≤ 0x7E → (getD t i 0 ≡ 0x5C → ⊥) → all titleByte (drop (i + 1) t) ≡ all titleByte t
   title-next h l m n = sym (all-passes titleByte t i h (simp (le-leb _ _ l, le-leb _ _ m, ne-eqb _ _ n))) ∙ v

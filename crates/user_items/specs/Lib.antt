@@ -1,3 +1,4 @@
 pub mod Kinds
 pub mod Said
 pub mod Sent
+pub mod Private

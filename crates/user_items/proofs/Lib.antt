@@ -1,0 +1,4 @@
+pub mod BodyLaws
+pub mod KindLaws
+pub mod UserLaws
+pub mod Agree

@@ -1,0 +1,7 @@
+// The sub-items of the user information: which are good, what they say, and what may be sent.
+mod body;
+mod kinds;
+mod user;
+
+pub use body::uid_in;
+pub use user::user_ok;
