@@ -18,6 +18,7 @@ use Rattle.titles.specs.Title.{titleOk}
 use Rattle.titles.proofs.TitleLaws.{title-sixteen}
 use Rattle.items.specs.Items.{Walk, walk, bodies, first, place}
 use Rattle.roles.specs.Sheet.{roleSheet, roleSheetOk}
+use Rattle.roles.proofs.Inverse.{role-sheet-back}
 use Rattle.user_items.specs.Kinds.{good50H, versionOk}
 use Rattle.user_items.specs.Said.{versionSaid, invokedSaid, performedSaid, rolesSaid}
 use Rattle.user_items.specs.Sent.{User, userGood, userBytes}
@@ -34,7 +35,7 @@ use Rattle.writing.specs.Wire.{AssociatePdu, associateItems, associateBytes, pd
 use Rattle.writing.specs.Form.{rqForm, acForm}
 use Rattle.writing.proofs.Case3.{associate-long}
 use Rattle.round_trips.specs.Trips.{AssociateTrip, RqTrip, AcTrip, readOf, classAt, versionAt}
-use Rattle.round_trips.proofs.Stub.{sent-good, sent-maximum, sent-class, sent-class-at, sent-version, sent-version-none, sent-version-at, sent-invoked, sent-performed, sent-roles, sheet-roles, sub-item-stands}
+use Rattle.round_trips.proofs.Stub.{sent-good, sent-maximum, sent-class, sent-class-at, sent-version, sent-version-none, sent-version-at, sent-invoked, sent-performed, sent-roles, sub-item-stands}
 use Rattle.round_trips.proofs.ContextTrip.{ContextKind, proposing, answering, Bodies, bodies-back}
 use Rattle.round_trips.proofs.PduTrip.{Apart, Fits, items-small, last-small, associate-kind, frame-version, associate-whole, associate-68, at-middle, at-application, at-place, at-bodies, at-user, user-last, associate-items-ok}
 
@@ -138,7 +139,7 @@ module _ (f : AssociatePdu) (w : Fits f) (u : User) (g : userGood u ≡ true) (x
 
   roles-at : rolesSheetIn pdu ≡ u .roles
   unfolding rolesSheetIn
-  roles-at = ap (λ (v : Walk). roleSheet (rolesSaid v)) user-at ∙ (ap roleSheet (sent-roles u g user-small) ∙ sheet-roles (u .roles) (user-roles u g))
+  roles-at = ap (λ (v : Walk). roleSheet (rolesSaid v)) user-at ∙ (ap roleSheet (sent-roles u g user-small) ∙ role-sheet-back (u .roles) (user-roles u g))
 
   fields-at : fieldsOf kind pdu ≡ readOf (f .application) u sheet (length pdu)
   fields-at = rw (frame-version f w, place-at, application-at, maximum-at, s, class-at, class-long, version-at, version-long, invoked-at, performed-at, roles-at)

@@ -1,11 +1,11 @@
 -- The user information that is read from a good 50H may be sent again, with a class UID where it had none, and takes no more bytes but for that one.
 -- Assumes nothing.
-use Prim.Native.Nat.{ℕ, _+_, _*_, _≤_, _<_}
+use Prim.Native.Nat.{ℕ, _+_, _≤_, _<_}
 use native.Mathlib.Omega.{arith}
 use native.Mathlib.Decide.{decLt}
 use mathlib.Core.Bool.{Bool, true, false, _&&_, _||_, cond, or-true}
 use mathlib.Core.List.{List, [], _∷_, map}
-use mathlib.Core.Path.{_≡_, refl, ap, _∙_}
+use mathlib.Core.Path.{_≡_, refl, ap}
 use lib.ListN.{length, take, drop, getD, length-take, length-drop, List·getD-eq-default}
 use lib.Seq.{length-take-le, getD-take, getD-drop}
 use lib.Dec.{eqb}
@@ -18,7 +18,7 @@ use Rattle.items.specs.Items.{Walk, walk, bodies, first, place}
 use Rattle.items.proofs.HoldLaws.{first-good}
 use Rattle.items.proofs.PlaceLaws.{stands}
 use Rattle.roles.specs.Role.{roleOk}
-use Rattle.roles.specs.Sheet.{rolesIn, roleSheet}
+use Rattle.roles.proofs.Inverse.{roles-back, roles-sheet-ok}
 use Rattle.user_items.specs.Kinds.{fourLong, versionOk, uidIn, roleOf, good54H, good50H}
 use Rattle.user_items.specs.Said.{countSaid, rolesSaid}
 use Rattle.user_items.specs.Sent.{userGood, countOk}
@@ -27,7 +27,7 @@ use Rattle.reading.specs.Associate.{subItemsOf, rolesSheetIn}
 use Rattle.writing.specs.Cases.{rolesSize, added}
 use Rattle.sheet_room.proofs.Sizes.{sizes, sizesOf}
 use Rattle.round_trips.specs.Trips.{classOr, userRead, classGrown}
-use Rattle.round_trips.proofs.Stub.{roles-sheet, roles-sheet-good, user-filled, user-51, good-51, good-52, good-53, good-54, good-55, said-roles}
+use Rattle.round_trips.proofs.Stub.{user-filled, user-51, good-51, good-52, good-53, good-54, good-55, said-roles}
 use Rattle.round_trips.proofs.Share.{shares, first-size}
 
 -- ---- a part of a list of bytes is one
@@ -133,7 +133,7 @@ module _ (given pdu : List ℕ) (g : good50H (first (bodies 0x50 (walk (topItems
   pub user-again : nameOk given ≡ true → ((i : ℕ) → getD pdu i 0 < 256) → userGood (userRead given pdu) ≡ true
   unfolding userGood rolesSheetIn subItemsOf
   user-again n b =
-      both-of _ _ (class-good n) (both-of _ _ version-good (both-of _ _ (roles-sheet-good (rolesSaid (walk body)) (said-roles body g)) (both-of _ _ (count-good b 0) (count-good b 2))))
+      both-of _ _ (class-good n) (both-of _ _ version-good (both-of _ _ (roles-sheet-ok (rolesSaid (walk body)) (said-roles body g)) (both-of _ _ (count-good b 0) (count-good b 2))))
 
   -- what it adds to the maximum length, in eight bytes, has room where it came from
   pub user-shorter : 8 + added (userRead given pdu) ≤ length body + classGrown given pdu
@@ -143,7 +143,7 @@ module _ (given pdu : List ℕ) (g : good50H (first (bodies 0x50 (walk (topItems
       let m = maximum-size (bodies 0x51 (walk body)) (user-51 body g) (good-51 body g) in
       let c = class-size given (bodies 0x52 (walk body)) in
       let o = counts-size (walk body) (good-53 body g) in
-      let r = ap rolesSize (roles-sheet (rolesSaid (walk body)) (said-roles body g)) in
+      let r = ap rolesSize (roles-back (rolesSaid (walk body)) (said-roles body g)) in
       let s = roles-size (bodies 0x54 (walk body)) (good-54 body g) in
       let v = version-size (bodies 0x55 (walk body)) in
       omega arith
