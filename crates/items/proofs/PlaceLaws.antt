@@ -61,3 +61,14 @@ stand t (suc n) s = go (empty s) (leb (4 + be16 s 2) (length s)) refl (stand t n
 pub stands : (t : ℕ) (s : List ℕ) → Stands t s (walk s)
 unfolding walk
 stands t s = stand t (length s) s
+
+-- behind a head, where there is one
+pub place-head : (t : ℕ) (w : Walk) → 1 ≤ length (bodies t w) → 4 ≤ place t w
+unfolding bodies place
+place-head t done h = absurd (omega arith)
+place-head t broken h = absurd (omega arith)
+place-head t (item u b w) h = go (eqb u t)
+  where
+    go : (d : Bool) → 4 ≤ cond d 4 (4 + length b + place t w)
+    go true = omega arith
+    go false = omega arith

@@ -2,19 +2,19 @@
 -- Assumes nothing.
 use Prim.Native.Nat.{ℕ, zero, suc, _+_, _<_}
 use native.Mathlib.Omega.{arith}
-use mathlib.Core.Bool.{Bool, true, false}
-use mathlib.Core.List.{List, [], _∷_, _++_, append-assoc, append-nil}
+use mathlib.Core.Bool.{Bool, true, false, cond}
+use mathlib.Core.List.{List, [], _∷_, _++_, map, append-assoc, append-nil}
 use mathlib.Core.Path.{_≡_, refl, sym, ap, _∙_}
 use lib.ListN.{length, drop, replicate, length-append}
 use lib.Seq.{take-at, drop-at}
-use lib.Dec.{leb, eqb}
-use borrow.Author.Tests.{le-leb, eq-eqb}
+use lib.Dec.{leb, ltb, eqb}
+use borrow.Author.Tests.{le-leb, lt-ltb, ltb-true, eq-eqb}
 use Rattle.laws.specs.Lists.{all, among, sameBytes}
 use Rattle.laws.proofs.Booleans.{holds as is-true, left-of, right-of, both-of}
 use Rattle.laws.proofs.Same.{same-self}
 use Rattle.octets.specs.Octets.{be16, two}
-use Rattle.items.specs.Items.{Walk, done, item, step, walk, filled, bodies, types, only, goodBodies, holds}
-use Rattle.items.specs.Wire.{itemBytes, itemsBytes}
+use Rattle.items.specs.Items.{Walk, done, item, step, walk, filled, bodies, types, only, goodBodies, holds, place}
+use Rattle.items.specs.Wire.{itemBytes, itemsBytes, sequence}
 use Rattle.items.proofs.WalkLaws.{walk-step, walk-nil}
 use Rattle.items.proofs.HoldLaws.{goods-more}
 
@@ -99,3 +99,106 @@ written known good a k x bs v i j g h f r =
     let o : only known (types (run k bs v)) ≡ replicate (length bs) k ++ only known (types v) = ap (only known) (types-run k bs v) ∙ only-run known k (length bs) (types v) j in
     let l : List ℕ = a ∷ (replicate (length bs) k ++ only known (types v)) in
     rw (filled-run k bs v, f, i, o) (both-of (sameBytes l l) _ (is-true (sameBytes l l) (same-self l)) e)
+
+-- ---- items of any types, each a type and a body, and then w
+unfoldable pub along : List (ℕ × List ℕ) → Walk → Walk
+along [] w = w
+along (i ∷ is) w = item (i .0) (i .1) (along is w)
+
+-- each has a length of two bytes
+abbrev pub fits : ℕ × List ℕ → Bool
+fits i = ltb (length (i .1)) 65536
+
+-- the bodies of those of a type
+unfoldable pub ofType : ℕ → List (ℕ × List ℕ) → List (List ℕ)
+ofType t [] = []
+ofType t (i ∷ is) = cond (eqb (i .0) t) (i .1 ∷ ofType t is) (ofType t is)
+
+pub sequence-cons : (i : ℕ × List ℕ) (is : List (ℕ × List ℕ)) → length (sequence (i ∷ is)) ≡ 4 + length (i .1) + length (sequence is)
+sequence-cons i is = length-append (itemBytes (i .0) (i .1)) (sequence is) ∙ ap (λ (n : ℕ). n + length (sequence is)) (item-length (i .0) (i .1))
+
+pub sequence-append : (is js : List (ℕ × List ℕ)) → sequence (is ++ js) ≡ sequence is ++ sequence js
+sequence-append [] js = refl
+sequence-append (i ∷ is) js = rw (sequence-append is js) (sym (append-assoc (itemBytes (i .0) (i .1)) (sequence is) (sequence js)))
+
+pub sequence-length : (is js : List (ℕ × List ℕ)) → length (sequence (is ++ js)) ≡ length (sequence is) + length (sequence js)
+sequence-length is js = ap length (sequence-append is js) ∙ length-append (sequence is) (sequence js)
+
+-- so it is where all of it has
+pub sequence-fits : (is : List (ℕ × List ℕ)) → length (sequence is) < 65536 → all fits is ≡ true
+sequence-fits [] h = refl
+sequence-fits (i ∷ is) h =
+    let l = sequence-cons i is in
+    both-of _ _ (lt-ltb (length (i .1)) 65536 (omega arith)) (sequence-fits is (omega arith))
+
+pub walk-sequence : (is : List (ℕ × List ℕ)) (rest : List ℕ) → all fits is ≡ true → walk (sequence is ++ rest) ≡ along is (walk rest)
+unfolding along
+walk-sequence [] rest h = refl
+walk-sequence (i ∷ is) rest h =
+    rw append-assoc (walk-item (i .0) (i .1) (sequence is ++ rest) (ltb-true _ _ (left-of _ _ h)) ∙ rw (walk-sequence is rest (right-of (fits i) _ h)))
+
+-- and nothing behind them
+pub walk-whole : (is : List (ℕ × List ℕ)) → all fits is ≡ true → walk (sequence is) ≡ along is done
+walk-whole is h = ap walk (sym (append-nil (sequence is))) ∙ (walk-sequence is [] h ∙ ap (along is) walk-nil)
+
+pub filled-along : (is : List (ℕ × List ℕ)) (w : Walk) → filled (along is w) ≡ filled w
+unfolding along filled
+filled-along [] w = refl
+filled-along (i ∷ is) w = filled-along is w
+
+pub bodies-along : (t : ℕ) (is : List (ℕ × List ℕ)) (w : Walk) → bodies t (along is w) ≡ ofType t is ++ bodies t w
+unfolding along bodies ofType
+bodies-along t [] w = refl
+bodies-along t (i ∷ is) w = rw (bodies-along t is w) (go (eqb (i .0) t))
+  where
+    go : (d : Bool) → cond d (i .1 ∷ (ofType t is ++ bodies t w)) (ofType t is ++ bodies t w) ≡ cond d (i .1 ∷ ofType t is) (ofType t is) ++ bodies t w
+    go true = refl
+    go false = refl
+
+-- of what is written alone
+pub bodies-whole : (t : ℕ) (is : List (ℕ × List ℕ)) → all fits is ≡ true → bodies t (walk (sequence is)) ≡ ofType t is
+unfolding bodies
+bodies-whole t is h = ap (bodies t) (walk-whole is h) ∙ (bodies-along t is done ∙ append-nil (ofType t is))
+
+-- ---- those of a type: one behind the other, and where all are of one type
+pub of-append : (t : ℕ) (is js : List (ℕ × List ℕ)) → ofType t (is ++ js) ≡ ofType t is ++ ofType t js
+unfolding ofType
+of-append t [] js = refl
+of-append t (i ∷ is) js = rw (of-append t is js) (go (eqb (i .0) t))
+  where
+    go : (d : Bool) → cond d (i .1 ∷ (ofType t is ++ ofType t js)) (ofType t is ++ ofType t js) ≡ cond d (i .1 ∷ ofType t is) (ofType t is) ++ ofType t js
+    go true = refl
+    go false = refl
+
+module _ {A : Type 0} (t u : ℕ) (f : A → List ℕ) where
+  pub of-same : eqb u t ≡ true → (xs : List A) → ofType t (map (λ x. (u, f x)) xs) ≡ map f xs
+  unfolding ofType
+  of-same h [] = refl
+  of-same h (x ∷ xs) = rw (h, of-same h xs)
+
+  pub of-other : eqb u t ≡ false → (xs : List A) → ofType t (map (λ x. (u, f x)) xs) ≡ []
+  unfolding ofType
+  of-other h [] = refl
+  of-other h (x ∷ xs) = rw h (of-other h xs)
+
+-- the place of the first of a type
+pub place-along : (t : ℕ) (is : List (ℕ × List ℕ)) (b : List ℕ) (w : Walk) → ofType t is ≡ [] → place t (along is (item t b w)) ≡ length (sequence is) + 4
+unfolding along place ofType
+place-along t [] b w h = rw (eq-eqb t t refl)
+place-along t (i ∷ is) b w h = go (eqb (i .0) t) h (place-along t is b w)
+  where
+    go : (d : Bool) → cond d (i .1 ∷ ofType t is) (ofType t is) ≡ [] → (ofType t is ≡ [] → place t (along is (item t b w)) ≡ length (sequence is) + 4)
+        → cond d 4 (4 + length (i .1) + place t (along is (item t b w))) ≡ length (sequence (i ∷ is)) + 4
+    go true q r = let z : suc (length (ofType t is)) ≡ 0 = ap length q in absurd (omega arith)
+    go false q r = let l = sequence-cons i is in let p = r q in omega arith
+
+pub along-append : (is js : List (ℕ × List ℕ)) (w : Walk) → along (is ++ js) w ≡ along is (along js w)
+unfolding along
+along-append [] js w = refl
+along-append (i ∷ is) js w = rw (along-append is js w)
+
+-- in what is written alone
+pub place-whole : (t : ℕ) (is : List (ℕ × List ℕ)) (b : List ℕ) (js : List (ℕ × List ℕ)) → all fits (is ++ ((t, b) ∷ js)) ≡ true → ofType t is ≡ []
+    → place t (walk (sequence (is ++ ((t, b) ∷ js)))) ≡ length (sequence is) + 4
+unfolding along
+place-whole t is b js h n = ap (place t) (walk-whole (is ++ ((t, b) ∷ js)) h ∙ along-append is ((t, b) ∷ js) done) ∙ place-along t is b (along js done) n

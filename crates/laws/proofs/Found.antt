@@ -1,4 +1,4 @@
--- An element of a list that passes a test, by its place: some one, none, the first.
+-- An element of a list that passes a test, by its place: some one, none, the first, every one.
 -- Assumes nothing.
 use Prim.Native.Nat.{ℕ, zero, suc, _<_, _≤_}
 use native.Mathlib.Omega.{arith}
@@ -7,8 +7,8 @@ use mathlib.Core.Path.{_≡_, refl, sym, _∙_}
 use mathlib.Core.Bool.{Bool, true, false, cond, _||_}
 use mathlib.Core.List.{List, [], _∷_}
 use lib.ListN.{length, getD}
-use Rattle.laws.specs.Lists.{any, firstPlace}
-use Rattle.laws.proofs.Booleans.{held, not-held, or-left, or-right}
+use Rattle.laws.specs.Lists.{all, any, firstPlace}
+use Rattle.laws.proofs.Booleans.{held, not-held, left-of, right-of, both-of, or-left, or-right}
 
 -- ---- the first stands in the list just where there is one
 module _ {A : Type 0} (p : A → Bool) where
@@ -71,3 +71,13 @@ module _ {A : Type 0} (p : A → Bool) (d : A) where
 
   pub first-some : (xs : List A) → firstPlace p xs < length xs → any p xs ≡ true
   first-some xs h = any-at xs (firstPlace p xs) h (first-passes xs h)
+
+  -- ---- every one
+  pub all-at : (xs : List A) → all p xs ≡ true → (k : ℕ) → k < length xs → p (getD xs k d) ≡ true
+  all-at [] e k h = absurd (omega arith)
+  all-at (x ∷ xs) e zero h = left-of (p x) (all p xs) e
+  all-at (x ∷ xs) e (suc k) h = all-at xs (right-of (p x) (all p xs) e) k (omega arith)
+
+  pub at-all : (xs : List A) → ((k : ℕ) → k < length xs → p (getD xs k d) ≡ true) → all p xs ≡ true
+  at-all [] f = refl
+  at-all (x ∷ xs) f = both-of _ _ (f 0 (omega arith)) (at-all xs (λ k h. f (suc k) (omega arith)))

@@ -67,39 +67,39 @@ module _ (r : List ℕ) where
 pub ruleset one-laws = (and-step, no-here, call-not, call-yes, le-leb, lt-leb, unused-zero, fourth-not, unused-not, uid-own, name-yes, name-not, needs)
 
 -- ---- `records_ok`
-module _ (s : List ℕ) (at : ℕ) (v : all recordOk (roleRecords (drop at s)) ≡ all recordOk (roleRecords s)) (w : length s % 68 ≡ 0) (z : at % 68 ≡ 0) where
-  pub all-next : (x : List ℕ) (b : Bool) → at < length s → x ≡ take 68 (drop at s) → b ≡ recordOk x → not b ≡ false → all recordOk (roleRecords (drop (at + 68) s)) ≡ all recordOk (roleRecords s)
+module _ (s : List ℕ) (at : ℕ) (v : all recordOk (roleRecords (drop at s)) ≡ all recordOk (roleRecords s)) where
+  pub all-next : (x : List ℕ) (b : Bool) → 68 ≤ length s - at → x ≡ take 68 (drop at s) → b ≡ recordOk x → not b ≡ false → all recordOk (roleRecords (drop (at + 68) s)) ≡ all recordOk (roleRecords s)
   all-next x b h e q t =
       let g : recordOk (take 68 (drop at s)) ≡ true = ap recordOk (sym e) ∙ (sym q ∙ not-false b t) in
       simp (role-records-here s at (omega arith), g) at v
 
-  pub all-bad : (x : List ℕ) (b : Bool) → at < length s → x ≡ take 68 (drop at s) → b ≡ recordOk x → not b ≡ true → false ≡ all recordOk (roleRecords s)
+  pub all-bad : (x : List ℕ) (b : Bool) → 68 ≤ length s - at → x ≡ take 68 (drop at s) → b ≡ recordOk x → not b ≡ true → false ≡ all recordOk (roleRecords s)
   all-bad x b h e q t =
       let g : recordOk (take 68 (drop at s)) ≡ false = ap recordOk (sym e) ∙ (sym q ∙ not-true b t) in
       simp (role-records-here s at (omega arith), g) at v
 
-  pub all-done : length s ≤ at → true ≡ all recordOk (roleRecords s)
+  pub all-done : length s - at < 68 → true ≡ all recordOk (roleRecords s)
   all-done h = simp (role-records-none s at (omega arith)) at v
 
 pub ruleset all-laws = (needs, all-next, all-bad, all-done)
 
 -- ---- `uid_later`
-module _ (s u : List ℕ) (at : ℕ) (all : Bool) (v : all ≡ any (sameBytes u) (uidsIn (drop at s))) (w : length s % 68 ≡ 0) (z : at % 68 ≡ 0) where
-  module _ (x : List ℕ) (b : Bool) (h : at < length s) (e : x ≡ uidAt s at) (q : b ≡ sameBytes u x) where
+module _ (s u : List ℕ) (at : ℕ) (all : Bool) (v : all ≡ any (sameBytes u) (uidsIn (drop at s))) where
+  module _ (x : List ℕ) (b : Bool) (h : 68 ≤ length s - at) (e : x ≡ uidAt s at) (q : b ≡ sameBytes u x) where
     pub later-hit : b ≡ true → true ≡ all
     later-hit t = sym (v ∙ rw (uids-here s at (omega arith), ← e, ← q, t))
 
     pub later-next : b ≡ false → all ≡ any (sameBytes u) (uidsIn (drop (at + 68) s))
     later-next t = v ∙ rw (uids-here s at (omega arith), ← e, ← q, t)
 
-  pub later-done : length s ≤ at → false ≡ all
+  pub later-done : length s - at < 68 → false ≡ all
   later-done h = sym (v ∙ rw (uids-none s at (omega arith)))
 
 pub ruleset later-laws = (needs, later-hit, later-next, later-done)
 
 -- ---- `uids_differ`
-module _ (s : List ℕ) (at : ℕ) (all : Bool) (v : all ≡ differ (uidsIn (drop at s))) (w : length s % 68 ≡ 0) (z : at % 68 ≡ 0) where
-  module _ (x : List ℕ) (b : Bool) (h : at < length s) (e : x ≡ uidAt s at) (q : b ≡ any (sameBytes x) (uidsIn (drop (at + 68) s))) where
+module _ (s : List ℕ) (at : ℕ) (all : Bool) (v : all ≡ differ (uidsIn (drop at s))) where
+  module _ (x : List ℕ) (b : Bool) (h : 68 ≤ length s - at) (e : x ≡ uidAt s at) (q : b ≡ any (sameBytes x) (uidsIn (drop (at + 68) s))) where
     pub apart-next : b ≡ false → all ≡ differ (uidsIn (drop (at + 68) s))
     unfolding differ
     apart-next t = v ∙ rw (uids-here s at (omega arith), ← e, ← q, t)
@@ -108,7 +108,7 @@ module _ (s : List ℕ) (at : ℕ) (all : Bool) (v : all ≡ differ (uidsIn (dro
     unfolding differ
     apart-bad t = sym (v ∙ rw (uids-here s at (omega arith), ← e, ← q, t))
 
-  pub apart-done : length s ≤ at → true ≡ all
+  pub apart-done : length s - at < 68 → true ≡ all
   unfolding differ
   apart-done h = sym (v ∙ rw (uids-none s at (omega arith)))
 

@@ -1,6 +1,6 @@
 // Whether a role sheet may be sent.
 ghost use mathlib.Core.Path.{_≡_};
-ghost use Prim.Native.Nat.{_+_, _%_, _≤_};
+ghost use Prim.Native.Nat.{_+_, _≤_};
 ghost use lib.ListN.{length, take, drop};
 ghost use Rattle.laws.specs.Lists.{all, any, sameBytes, differ};
 ghost use Rattle.octets.specs.Slice.{PartOf};
@@ -37,11 +37,10 @@ fn record_ok(r: &[u8]) -> bool
 }
 
 fn records_ok(s: &[u8]) -> bool
-    requires { ⌜ length (now s) % 68 ≡ 0 ⌝ }
     ensures { λ b. ⌜ b ≡ all recordOk (roleRecords (now (s .entry))) ⌝ }
 {
     let mut at = 0;
-    while at < s.len() {
+    while numbers::ROLE <= s.len() - at {
         if !record_ok(record_at(s, at)) {
             return false;
         }
@@ -52,11 +51,11 @@ fn records_ok(s: &[u8]) -> bool
 
 // Whether a record from a place on has this UID.
 fn uid_later(s: &[u8], from: usize, uid: &[u8]) -> bool
-    requires { ⌜ (length (now s) % 68 ≡ 0) × (from % 68 ≡ 0) × (from ≤ length (now s)) ⌝ }
+    requires { ⌜ from ≤ length (now s) ⌝ }
     ensures { λ r. ⌜ r ≡ any (sameBytes (now (uid .entry))) (uidsIn (drop from (now (s .entry)))) ⌝ }
 {
     let mut at = from;
-    while at < s.len() {
+    while numbers::ROLE <= s.len() - at {
         if octets::same_bytes(uid, uid_at(s, at)) {
             return true;
         }
@@ -67,11 +66,10 @@ fn uid_later(s: &[u8], from: usize, uid: &[u8]) -> bool
 
 // Whether no two records have the same UID.
 fn uids_differ(s: &[u8]) -> bool
-    requires { ⌜ length (now s) % 68 ≡ 0 ⌝ }
     ensures { λ r. ⌜ r ≡ differ (uidsIn (now (s .entry))) ⌝ }
 {
     let mut at = 0;
-    while at < s.len() {
+    while numbers::ROLE <= s.len() - at {
         let e = at + numbers::ROLE;
         if uid_later(s, e, uid_at(s, at)) {
             return false;

@@ -1,6 +1,6 @@
 -- The pass over the sub-items of a 50H: each way through the code. The loops are followed for any kinds, `whole` is the answer for all of it.
 -- Assumes nothing.
-use Prim.Native.Nat.{ℕ, _+_, _-_, _≤_, _<_}
+use Prim.Native.Nat.{ℕ, _-_, _≤_, _<_}
 use native.Mathlib.Omega.{arith}
 use mathlib.Core.Bool.{Bool, true, false, not, _&&_, _||_, cond}
 use mathlib.Core.List.{List, [], _∷_, map}
@@ -10,10 +10,9 @@ use lib.Dec.{eqb, leb}
 use borrow.Author.Needs.{needs}
 use borrow.Author.Tests.{le-leb, lt-leb, eq-eqb, ne-eqb, eqb-true, eqb-false, not-true, not-false}
 use Rattle.laws.specs.Lists.{all, any, among, distinct, sameBytes}
-use Rattle.laws.proofs.Tests.{decide}
 use Rattle.items.specs.Items.{Walk, walk, filled, bodies, itemEnd}
 use Rattle.items.proofs.HoldLaws.{pass}
-use Rattle.items.proofs.WalkLaws.{Item, more, stop, over, walking}
+use Rattle.items.proofs.WalkLaws.{Item, stop, over, walking}
 use Rattle.items.proofs.ItemLaws.{bodyAt, bodies-stop, bodies-over}
 use Rattle.user_items.specs.Kinds.{Kind, alike, uidIn, userKinds, kept, subItemsOk, good50H}
 use Rattle.user_items.specs.Private.OnePass.{knownIn, goodIn, onceIn, sameAt, comes, subOk, passes}

@@ -1,4 +1,5 @@
 pub mod Kinds
+pub mod Meaning
 pub mod Said
 pub mod Sent
 pub mod Private

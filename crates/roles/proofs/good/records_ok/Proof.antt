@@ -1,6 +1,6 @@
 -- `records_ok` meets its contract. The records before `at` are good.
 -- Assumes nothing.
-use Prim.Native.Nat.{_-_, _%_, _≤_}
+use Prim.Native.Nat.{_-_, _≤_}
 use mathlib.Core.Path.{_≡_}
 use lib.ListN.{length, drop}
 use Rattle.laws.specs.Lists.{all}
@@ -11,7 +11,7 @@ use Rattle.roles.proofs.good.records_ok.Statement.{statement}
 use Rattle.roles.proofs.good.records_ok.Tie as tie
 
 abbrev Inv-loop : tie.InvT-loop
-Inv-loop s at₀ at = (at % 68 ≡ 0) × (at ≤ length s) × (all recordOk (roleRecords (drop at s)) ≡ all recordOk (roleRecords s))
+Inv-loop s at₀ at = (at ≤ length s) × (all recordOk (roleRecords (drop at s)) ≡ all recordOk (roleRecords s))
 
 abbrev μ-loop : tie.MeasureT-loop
 μ-loop s at₀ at = length s - at
@@ -22,6 +22,6 @@ records-ok-spec =
     (tie.spec
     Inv-loop
     μ-loop
-    (λ c. search all-laws) (λ c κs. search all-laws) (λ c κs. search all-laws)  -- loop-holds, record-at-requires, record-ok-requires
-    (λ c. search all-laws) (λ c. search all-laws) (λ c. search all-laws) (λ c. search all-laws)  -- returns, add-at, loop-less, loop-again
-    (λ c. search all-laws))  -- returns-2
+    (λ c. search all-laws) (λ c. search all-laws) (λ c κs. search all-laws)  -- loop-holds, sub-loop, record-at-requires
+    (λ c κs. search all-laws) (λ c. search all-laws) (λ c. search all-laws)  -- record-ok-requires, returns, add-at
+    (λ c. search all-laws) (λ c. search all-laws) (λ c. search all-laws))  -- loop-less, loop-again, returns-2

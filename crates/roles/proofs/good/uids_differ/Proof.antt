@@ -1,6 +1,6 @@
 -- `uids_differ` meets its contract. The UIDs of the records before `at` come once; the rest decides.
 -- Assumes nothing.
-use Prim.Native.Nat.{_-_, _%_, _≤_}
+use Prim.Native.Nat.{_-_, _≤_}
 use mathlib.Core.Path.{_≡_}
 use lib.ListN.{length, drop}
 use Rattle.laws.specs.Lists.{differ}
@@ -10,7 +10,7 @@ use Rattle.roles.proofs.good.uids_differ.Statement.{statement}
 use Rattle.roles.proofs.good.uids_differ.Tie as tie
 
 abbrev Inv-loop : tie.InvT-loop
-Inv-loop s at₀ at = (at % 68 ≡ 0) × (at ≤ length s) × (differ (uidsIn s) ≡ differ (uidsIn (drop at s)))
+Inv-loop s at₀ at = (at ≤ length s) × (differ (uidsIn s) ≡ differ (uidsIn (drop at s)))
 
 abbrev μ-loop : tie.MeasureT-loop
 μ-loop s at₀ at = length s - at
@@ -21,6 +21,6 @@ uids-differ-spec =
     (tie.spec
     Inv-loop
     μ-loop
-    (λ c. search apart-laws) (λ c. search apart-laws) (λ c κs. search apart-laws)  -- loop-holds, add-e, uid-at-requires
-    (λ c κs. search apart-laws) (λ c. search apart-laws) (λ c. search apart-laws)  -- uid-later-requires, returns, loop-less
-    (λ c. search apart-laws) (λ c. search apart-laws))  -- loop-again, returns-2
+    (λ c. search apart-laws) (λ c. search apart-laws) (λ c. search apart-laws)  -- loop-holds, sub-loop, add-e
+    (λ c κs. search apart-laws) (λ c κs. search apart-laws) (λ c. search apart-laws)  -- uid-at-requires, uid-later-requires, returns
+    (λ c. search apart-laws) (λ c. search apart-laws) (λ c. search apart-laws))  -- loop-less, loop-again, returns-2
