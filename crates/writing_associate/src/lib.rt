@@ -2,11 +2,14 @@
 mod contexts;
 mod item;
 mod pdu;
+mod role_items;
+mod user;
 
 ghost use mathlib.Core.Path.{_≡_};
 ghost use mathlib.Core.List.{_++_};
 ghost use lib.ListN.{length, replicate};
 ghost use Rattle.numbers.specs.Lengths.{TITLE};
+ghost use Rattle.user_items.specs.Sent.{userOf};
 ghost use Rattle.writing.specs.Fields.{rqOf, acOf, rqGood, acGood};
 ghost use Rattle.writing.specs.Form.{rqForm, acForm, Wrote};
 use crate::pdu::write_pdu;
@@ -23,8 +26,18 @@ fn titles_of(called: &[u8], calling: &[u8]) -> [u8; 64]
     m
 }
 
-fn request_good(called: &[u8], calling: &[u8], application: &[u8], sheet: &[u8]) -> bool
-    ensures { λ r. ⌜ r ≡ rqGood (rqOf (now (called .entry)) (now (calling .entry)) (now (application .entry)) (now (sheet .entry))) ⌝ }
+fn request_good(
+    called: &[u8],
+    calling: &[u8],
+    application: &[u8],
+    class_uid: &[u8],
+    version_name: &[u8],
+    invoked: u16,
+    performed: u16,
+    roles: &[u8],
+    sheet: &[u8],
+) -> bool
+    ensures { λ r. ⌜ r ≡ rqGood (rqOf (now (called .entry)) (now (calling .entry)) (now (application .entry)) (userOf (now («class_uid» .entry)) (now («version_name» .entry)) invoked performed (now (roles .entry))) (now (sheet .entry))) ⌝ }
 {
     if !titles::title_ok(called) {
         return false;
@@ -35,6 +48,9 @@ fn request_good(called: &[u8], calling: &[u8], application: &[u8], sheet: &[u8])
     if !names::name_ok(application) {
         return false;
     }
+    if !user_items::user_good(class_uid, version_name, invoked, performed, roles) {
+        return false;
+    }
     sheets::proposal_ok(sheet)
 }
 
@@ -43,23 +59,58 @@ pub fn write_request(
     called: &[u8],
     calling: &[u8],
     application: &[u8],
+    class_uid: &[u8],
+    version_name: &[u8],
+    invoked: u16,
+    performed: u16,
+    roles: &[u8],
     sheet: &[u8],
     out: &mut [u8],
 ) -> Sent
-    ensures { λ r. ⌜ Wrote (rqForm (rqOf (now (called .entry)) (now (calling .entry)) (now (application .entry)) (now (sheet .entry)))) (now (out .entry)) r (now (out .exit)) ⌝ }
+    ensures { λ r. ⌜ Wrote (rqForm (rqOf (now (called .entry)) (now (calling .entry)) (now (application .entry)) (userOf (now («class_uid» .entry)) (now («version_name» .entry)) invoked performed (now (roles .entry))) (now (sheet .entry)))) (now (out .entry)) r (now (out .exit)) ⌝ }
 {
-    if !request_good(called, calling, application, sheet) {
+    if !request_good(
+        called,
+        calling,
+        application,
+        class_uid,
+        version_name,
+        invoked,
+        performed,
+        roles,
+        sheet,
+    ) {
         return Sent {
             refusal: numbers::BAD_CONTENTS,
             count: 0,
         };
     }
     let middle = titles_of(called, calling);
-    write_pdu(false, &middle, application, sheet, out)
+    write_pdu(
+        false,
+        &middle,
+        application,
+        class_uid,
+        version_name,
+        invoked,
+        performed,
+        roles,
+        sheet,
+        out,
+    )
 }
 
-fn accept_good(echoed: &[u8], application: &[u8], sheet: &[u8]) -> bool
-    ensures { λ r. ⌜ r ≡ acGood (acOf (now (echoed .entry)) (now (application .entry)) (now (sheet .entry))) ⌝ }
+fn accept_good(
+    echoed: &[u8],
+    application: &[u8],
+    class_uid: &[u8],
+    version_name: &[u8],
+    invoked: u16,
+    performed: u16,
+    roles: &[u8],
+    sheet: &[u8],
+) -> bool
+    ensures { λ r. ⌜ r ≡ acGood (acOf (now (echoed .entry)) (now (application .entry)) (userOf (now («class_uid» .entry)) (now («version_name» .entry)) invoked performed (now (roles .entry))) (now (sheet .entry))) ⌝ }
 {
     if echoed.len() != 64 {
         return false;
@@ -67,18 +118,51 @@ fn accept_good(echoed: &[u8], application: &[u8], sheet: &[u8]) -> bool
     if !names::name_ok(application) {
         return false;
     }
+    if !user_items::user_good(class_uid, version_name, invoked, performed, roles) {
+        return false;
+    }
     sheets::answers_ok(sheet)
 }
 
 // Writes an A-ASSOCIATE-AC to the start of the output; `echoed` are the RQ's PDU bytes 11 to 74.
-pub fn write_accept(echoed: &[u8], application: &[u8], sheet: &[u8], out: &mut [u8]) -> Sent
-    ensures { λ r. ⌜ Wrote (acForm (acOf (now (echoed .entry)) (now (application .entry)) (now (sheet .entry)))) (now (out .entry)) r (now (out .exit)) ⌝ }
+pub fn write_accept(
+    echoed: &[u8],
+    application: &[u8],
+    class_uid: &[u8],
+    version_name: &[u8],
+    invoked: u16,
+    performed: u16,
+    roles: &[u8],
+    sheet: &[u8],
+    out: &mut [u8],
+) -> Sent
+    ensures { λ r. ⌜ Wrote (acForm (acOf (now (echoed .entry)) (now (application .entry)) (userOf (now («class_uid» .entry)) (now («version_name» .entry)) invoked performed (now (roles .entry))) (now (sheet .entry)))) (now (out .entry)) r (now (out .exit)) ⌝ }
 {
-    if !accept_good(echoed, application, sheet) {
+    if !accept_good(
+        echoed,
+        application,
+        class_uid,
+        version_name,
+        invoked,
+        performed,
+        roles,
+        sheet,
+    ) {
         return Sent {
             refusal: numbers::BAD_CONTENTS,
             count: 0,
         };
     }
-    write_pdu(true, echoed, application, sheet, out)
+    write_pdu(
+        true,
+        echoed,
+        application,
+        class_uid,
+        version_name,
+        invoked,
+        performed,
+        roles,
+        sheet,
+        out,
+    )
 }

@@ -1,32 +1,32 @@
 // What an A-ASSOCIATE-RQ and an A-ASSOCIATE-AC have in common: the fixed part, one 10H, the contexts, one 50H.
 ghost use mathlib.Core.Path.{_≡_};
+ghost use mathlib.Core.Bool.{false};
 ghost use Prim.Native.Nat.{_+_, _%_, _≤_};
 ghost use lib.ListN.{length};
-ghost use Rattle.laws.specs.Lists.{joined};
 ghost use Rattle.numbers.specs.Lengths.{LONGEST, RECORD};
 ghost use Rattle.octets.specs.Private.Put.{Put};
-ghost use Rattle.writing.specs.Wire.{ourUser, associateBytes};
+ghost use Rattle.user_items.specs.Sent.{userOf, userBytes};
+ghost use Rattle.writing.specs.Wire.{associateBytes};
 ghost use Rattle.writing.specs.Form.{Wrote, goodForm};
-ghost use Rattle.writing_associate.specs.Private.Pdu.{pduKind, pduOf, base as baseOf, itemPart, fixedPart, Fit, Measured};
+ghost use Rattle.writing_associate.specs.Private.ContextItems.{contextBytes, capped};
+ghost use Rattle.writing_associate.specs.Private.Pdu.{pduKind, pduOf, base as baseOf, itemPart, fixedPart, Fit, Known, Measured};
 use crate::contexts::measure;
 use crate::contexts::put_contexts;
 use crate::item::put_item;
+use crate::user::put_user;
+use crate::user::user_size;
 use writing::Sent;
 
-// The sub-items of the user information: our maximum length.
-fn user() -> [u8; 8]
-    ensures { λ r. ⌜ r ≡ joined ourUser ⌝ }
+// The PDU-length, where `user` is the length of the 50H's body. Any above the limit gives 16,385.
+fn pdu_size(answer: bool, application: &[u8], user: usize, sheet: &[u8]) -> usize
+    requires { ⌜ (length (now application) ≤ 64) × (user ≤ LONGEST + 1) × (length (now sheet) % RECORD ≡ 0) ⌝ }
+    ensures { λ n. ⌜ n ≡ capped (baseOf (now (application .entry)) user + length (contextBytes answer false (now (sheet .entry)) 0)) ⌝ }
 {
-    *b"\x51\x00\x00\x04\x00\x00\x40\x00"
-}
-
-// All of the PDU-length but the contexts.
-fn base(application: &[u8]) -> usize
-    requires { ⌜ length (now application) ≤ 64 ⌝ }
-    ensures { λ r. ⌜ (r ≡ baseOf (now (application .entry)) (joined ourUser)) × (r ≤ LONGEST) ⌝ }
-{
-    let u = user();
-    68 + (4 + application.len()) + (4 + u.len())
+    let base = 68 + (4 + application.len()) + (4 + user);
+    if numbers::LONGEST < base {
+        return numbers::LONGEST + 1;
+    }
+    measure(answer, sheet, base)
 }
 
 fn put_fixed(out: &mut [u8], kind: u8, n: usize, middle: &[u8]) -> usize
@@ -39,14 +39,35 @@ fn put_fixed(out: &mut [u8], kind: u8, n: usize, middle: &[u8]) -> usize
     octets::put(out, a, middle)
 }
 
-fn put_items(out: &mut [u8], at: usize, answer: bool, application: &[u8], sheet: &[u8]) -> usize
-    requires { ⌜ (at + length (itemPart answer (now application) (now sheet)) ≤ length (now out)) × (length (itemPart answer (now application) (now sheet)) ≤ LONGEST) × (length (now sheet) % RECORD ≡ 0) ⌝ }
-    ensures { λ r. ⌜ Put (now (out .entry)) at (itemPart answer (now (application .entry)) (now (sheet .entry))) r (now (out .exit)) ⌝ }
+// The items, where `user` is the length of the 50H's body.
+fn put_items(
+    out: &mut [u8],
+    at: usize,
+    user: usize,
+    answer: bool,
+    application: &[u8],
+    class_uid: &[u8],
+    version_name: &[u8],
+    invoked: u16,
+    performed: u16,
+    roles: &[u8],
+    sheet: &[u8],
+) -> usize
+    requires { ⌜ Known answer (now application) (userOf (now «class_uid») (now «version_name») invoked performed (now roles)) (now sheet) user at (length (now out)) ⌝ }
+    ensures { λ r. ⌜ Put (now (out .entry)) at (itemPart answer (now (application .entry)) (userBytes (userOf (now («class_uid» .entry)) (now («version_name» .entry)) invoked performed (now (roles .entry)))) (now (sheet .entry))) r (now (out .exit)) ⌝ }
 {
     let a = put_item(out, at, 0x10, application);
     let b = put_contexts(out, a, answer, sheet);
-    let u = user();
-    put_item(out, b, 0x50, &u)
+    put_user(
+        out,
+        b,
+        user,
+        class_uid,
+        version_name,
+        invoked,
+        performed,
+        roles,
+    )
 }
 
 fn pdu_kind(answer: bool) -> u8
@@ -58,19 +79,38 @@ fn pdu_kind(answer: bool) -> u8
     numbers::ASSOCIATE_RQ
 }
 
+// A PDU of n bytes behind its header.
 fn put_pdu(
     out: &mut [u8],
     n: usize,
+    user: usize,
     answer: bool,
     middle: &[u8],
     application: &[u8],
+    class_uid: &[u8],
+    version_name: &[u8],
+    invoked: u16,
+    performed: u16,
+    roles: &[u8],
     sheet: &[u8],
 ) -> usize
-    requires { ⌜ Measured answer (now middle) (now application) (now sheet) n (length (now out)) ⌝ }
-    ensures { λ r. ⌜ Put (now (out .entry)) 0 (associateBytes (pduOf answer (now (middle .entry)) (now (application .entry)) (now (sheet .entry)))) r (now (out .exit)) ⌝ }
+    requires { ⌜ Measured answer (now middle) (now application) (userOf (now «class_uid») (now «version_name») invoked performed (now roles)) (now sheet) n user (length (now out)) ⌝ }
+    ensures { λ r. ⌜ Put (now (out .entry)) 0 (associateBytes (pduOf answer (now (middle .entry)) (now (application .entry)) (userBytes (userOf (now («class_uid» .entry)) (now («version_name» .entry)) invoked performed (now (roles .entry)))) (now (sheet .entry)))) r (now (out .exit)) ⌝ }
 {
     let a = put_fixed(out, pdu_kind(answer), n, middle);
-    put_items(out, a, answer, application, sheet)
+    put_items(
+        out,
+        a,
+        user,
+        answer,
+        application,
+        class_uid,
+        version_name,
+        invoked,
+        performed,
+        roles,
+        sheet,
+    )
 }
 
 // Writes an RQ or an AC whose contents are good: measured first, then written.
@@ -78,13 +118,19 @@ pub(crate) fn write_pdu(
     answer: bool,
     middle: &[u8],
     application: &[u8],
+    class_uid: &[u8],
+    version_name: &[u8],
+    invoked: u16,
+    performed: u16,
+    roles: &[u8],
     sheet: &[u8],
     out: &mut [u8],
 ) -> Sent
-    requires { ⌜ Fit (now middle) (now application) (now sheet) ⌝ }
-    ensures { λ r. ⌜ Wrote (goodForm (associateBytes (pduOf answer (now (middle .entry)) (now (application .entry)) (now (sheet .entry))))) (now (out .entry)) r (now (out .exit)) ⌝ }
+    requires { ⌜ Fit (now middle) (now application) (userOf (now «class_uid») (now «version_name») invoked performed (now roles)) (now sheet) ⌝ }
+    ensures { λ r. ⌜ Wrote (goodForm (associateBytes (pduOf answer (now (middle .entry)) (now (application .entry)) (userBytes (userOf (now («class_uid» .entry)) (now («version_name» .entry)) invoked performed (now (roles .entry)))) (now (sheet .entry))))) (now (out .entry)) r (now (out .exit)) ⌝ }
 {
-    let n = measure(answer, sheet, base(application));
+    let user = user_size(class_uid, version_name, invoked, performed, roles);
+    let n = pdu_size(answer, application, user, sheet);
     if numbers::LONGEST < n {
         return Sent {
             refusal: numbers::LONG_PDU,
@@ -97,7 +143,20 @@ pub(crate) fn write_pdu(
             count: 0,
         };
     }
-    let k = put_pdu(out, n, answer, middle, application, sheet);
+    let k = put_pdu(
+        out,
+        n,
+        user,
+        answer,
+        middle,
+        application,
+        class_uid,
+        version_name,
+        invoked,
+        performed,
+        roles,
+        sheet,
+    );
     Sent {
         refusal: numbers::NOT_REFUSED,
         count: k,

@@ -12,4 +12,5 @@ accept-good-spec =
     tie.close
     (tie.spec
     (λ c. search (needs, deciding)) (λ c κs. search (needs, deciding)) (λ c. search (needs, deciding))  -- returns, name-ok-requires, returns-2
-    (λ c κs. search (needs, deciding)) (λ c. search (needs, deciding)))  -- answers-ok-requires, returns-3
+    (λ c κs. search (needs, deciding)) (λ c. search (needs, deciding)) (λ c κs. search (needs, deciding))  -- user-good-requires, returns-3, answers-ok-requires
+    (λ c. search (needs, deciding)))  -- returns-4

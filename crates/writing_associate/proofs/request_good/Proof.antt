@@ -1,8 +1,7 @@
 -- `request_good` meets its contract.
 -- Assumes nothing.
-use borrow.Author.Needs.{needs}
-use Rattle.laws.proofs.Tests.{deciding}
 use Rattle.writing.specs.Fields.{rqGood}
+use Rattle.writing_associate.proofs.AssociateLaws.{good-laws}
 use Rattle.writing_associate.proofs.request_good.Statement.{statement}
 use Rattle.writing_associate.proofs.request_good.Tie as tie
 
@@ -11,7 +10,7 @@ unfolding rqGood
 request-good-spec =
     tie.close
     (tie.spec
-    (λ c κs. search (needs, deciding)) (λ c. search (needs, deciding))  -- title-ok-requires, returns
-    (λ c κs. search (needs, deciding)) (λ c. search (needs, deciding))  -- title-ok-requires-2, returns-2
-    (λ c κs. search (needs, deciding)) (λ c. search (needs, deciding))  -- name-ok-requires, returns-3
-    (λ c κs. search (needs, deciding)) (λ c. search (needs, deciding)))  -- proposal-ok-requires, returns-4
+    (λ c κs. search good-laws) (λ c. search good-laws) (λ c κs. search good-laws)  -- title-ok-requires, returns, title-ok-requires-2
+    (λ c. search good-laws) (λ c κs. search good-laws) (λ c. search good-laws)  -- returns-2, name-ok-requires, returns-3
+    (λ c κs. search good-laws) (λ c. search good-laws) (λ c κs. search good-laws)  -- user-good-requires, returns-4, proposal-ok-requires
+    (λ c. search good-laws))  -- returns-5

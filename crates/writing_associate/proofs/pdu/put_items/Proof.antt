@@ -8,6 +8,5 @@ pub put-items-spec : {M : Type 1} → statement M
 put-items-spec =
     tie.close
     (tie.spec
-    (λ c κs. search items-laws) (λ c κs. search items-laws) (λ c κs. search items-laws)  -- put-item-requires, put-contexts-requires, user-requires
-    (λ c. search items-laws) (λ c κs. search items-laws) (λ c. search items-laws)  -- slice-aggregate-put-item, put-item-requires-2, same-length
-    (λ c. search items-laws))  -- returns
+    (λ c κs. search items-laws) (λ c κs. search items-laws) (λ c κs. search items-laws)  -- put-item-requires, put-contexts-requires, put-user-requires
+    (λ c. search items-laws) (λ c. search items-laws))  -- same-length, returns
