@@ -1,5 +1,5 @@
 // Feohanna measured in one process and on the same bytes: receiving against memcpy and a plain copy, the PDVs of a PDU against receiving it, an RQ read and written against the second program and
-// against DCMTK, its answers chosen against reading it, its called title found among our own against the second program and against reading an RQ of one context.
+// against DCMTK, one with roles also against receiving it, its answers chosen against reading it, its called title found among our own against the second program and against reading an RQ of one context.
 //     bench                     a line for each measurement: its group, what, against what, ns per call of both, their ratio
 //     bench WHAT WHO TIMES      runs one of them so often, for an instruction counter; a wrong WHAT lists them
 #include "feohanna.h"
@@ -169,23 +169,90 @@ static Bytes sheet_of(unsigned contexts, unsigned transfers)
     return s;
 }
 
+// What an RQ says of its sender: its class UID, and these.
+static struct feo_user user_of(const char *version_name, const Bytes &roles)
+{
+    struct feo_user u = FEO_USER;
+    u.class_uid = bytes(CLASS_UID);
+    u.class_uid_len = std::strlen(CLASS_UID);
+    u.version_name = bytes(version_name);
+    u.version_name_len = std::strlen(version_name);
+    u.roles = roles.data();
+    u.roles_len = roles.size();
+    return u;
+}
+
 // Writes the RQ of a proposal in Sta4: its length.
-static size_t request(const Bytes &sheet, uint8_t *out, size_t out_len)
+static size_t request(const struct feo_user &user, const Bytes &sheet, uint8_t *out, size_t out_len)
 {
     struct feo_assoc a = FEO_FRESH;
     a.state = FEO_STA_4;
     a.requestor = 1;
     struct feo_answer r;
     feo_confirm(
-        &a, bytes(TITLES), 16, bytes(TITLES) + 16, 16, bytes(APPLICATION), std::strlen(APPLICATION), sheet.data(), sheet.size(),
+        &a, bytes(TITLES), 16, bytes(TITLES) + 16, 16, bytes(APPLICATION), std::strlen(APPLICATION), &user, sheet.data(), sheet.size(),
         NULL, 0, out, out_len, &r);
     return r.sent;
 }
 
+static size_t request(const Bytes &sheet, uint8_t *out, size_t out_len)
+{
+    return request(user_of("", Bytes()), sheet, out, out_len);
+}
+
+// Reads it: the records of both sheets.
 static size_t records(const Bytes &pdu, Bytes &sheet)
 {
+    static uint8_t roles[FEO_ROLES_ROOM];
     struct feo_associate f;
-    return feo_read_request(pdu.data(), pdu.size(), sheet.data(), sheet.size(), &f) == 0 ? f.records : 0;
+    return feo_read_request(pdu.data(), pdu.size(), sheet.data(), sheet.size(), roles, sizeof roles, &f) == 0 ? f.records + f.roles : 0;
+}
+
+// Receives it in one piece, in Sta2, and so judges it: whether it is a request.
+static size_t requested(const Bytes &pdu, uint8_t *gather)
+{
+    struct feo_assoc a = FEO_FRESH;
+    a.state = FEO_STA_2;
+    a.artim = 1;
+    struct feo_answer r;
+    uint8_t out[10];
+    return feo_receive(&a, gather, FEO_BUFFER, pdu.data(), pdu.size(), out, sizeof out, &r) == 0 && r.action == FEO_AE_6;
+}
+
+// ---- the roles that it selects
+
+// The k-th of the shortest names, each different: 10 of one byte, 90 of two, 1,000 of three, the rest of four.
+static std::string short_name(size_t k)
+{
+    if (k < 1000)
+        return std::to_string(k);
+    return k < 1100 ? std::to_string((k - 1000) / 10) + "." + std::to_string(k % 10) : std::to_string(k - 100);
+}
+
+// Roles for so many of them.
+static Bytes roles_of(size_t n)
+{
+    Bytes s(n * FEO_ROLE_LEN);
+    for (size_t k = 0; k < n; k++)
+        must(feo_put_role(&s[k * FEO_ROLE_LEN], short_name(k).data(), short_name(k).size(), 1, k % 2) == 0, "a role is refused");
+    return s;
+}
+
+// The most of them for which this proposal's RQ has room, 8 bytes and the name for each: a peer can send them.
+static size_t most_roles(const Bytes &sheet)
+{
+    Bytes out(FEO_BUFFER);
+    size_t n = 0, left = FEO_BUFFER - request(sheet, out.data(), out.size());
+    for (; left >= 8 + short_name(n).size(); n++)
+        left -= 8 + short_name(n).size();
+    return n;
+}
+
+// 1452 as 1,452
+static std::string with_comma(size_t n)
+{
+    std::string digits = std::to_string(n);
+    return digits.size() > 3 ? digits.insert(digits.size() - 3, ",") : digits;
 }
 
 // ---- the answers to it
@@ -268,17 +335,17 @@ static std::vector<Measured> all()
             Bytes sheet = sheet_of(contexts, transfers), out(FEO_BUFFER), lent(sheet.size(), 0xC3);
             out.resize(request(sheet, out.data(), out.size()));
             must(out.size() != 0 && records(out, lent) == contexts * transfers && lent == sheet, "an RQ is not read back");
-            must(second_read(out.data(), out.size(), lent.data(), lent.size()) == contexts * transfers, "the second program does not read it");
-            must(second_write(bytes(TITLES), bytes(APPLICATION), std::strlen(APPLICATION), sheet.data(), sheet.size()) == out.size(), "the second program does not write it");
+            must(second_read(out.data(), out.size(), lent.data(), lent.size(), NULL, 0) == contexts * transfers, "the second program does not read it");
+            must(second_write(bytes(TITLES), bytes(APPLICATION), std::strlen(APPLICATION), bytes(CLASS_UID), std::strlen(CLASS_UID), sheet.data(), sheet.size()) == out.size(), "the second program does not write it");
             std::string what = std::to_string(contexts) + (contexts == 1 ? " context x " : " contexts x ") + std::to_string(transfers);
             Measured x = { writes ? "write" : "read", what, {} };
             Bytes *pdu = new Bytes(out), *given = new Bytes(sheet), *room = new Bytes(lent), *sent = new Bytes(20000);
             if (!writes) {
                 x.contenders.push_back({ "feohanna", [=] { return records(*pdu, *room); } });
-                x.contenders.push_back({ "second", [=] { return second_read(pdu->data(), pdu->size(), room->data(), room->size()); } });
+                x.contenders.push_back({ "second", [=] { return second_read(pdu->data(), pdu->size(), room->data(), room->size(), NULL, 0); } });
             } else {
                 x.contenders.push_back({ "feohanna", [=] { return request(*given, sent->data(), FEO_BUFFER); } });
-                x.contenders.push_back({ "second", [=] { return second_write(bytes(TITLES), bytes(APPLICATION), std::strlen(APPLICATION), given->data(), given->size()); } });
+                x.contenders.push_back({ "second", [=] { return second_write(bytes(TITLES), bytes(APPLICATION), std::strlen(APPLICATION), bytes(CLASS_UID), std::strlen(CLASS_UID), given->data(), given->size()); } });
             }
 #ifdef WITH_DCMTK
             void *proposal = dcmtk_proposal(contexts, transfers);
@@ -291,6 +358,20 @@ static std::vector<Measured> all()
 #endif
             m.push_back(x);
         }
+    for (int most = 0; most < 2; most++) {
+        const Bytes sheet = sheet_of(1, 1), selected = roles_of(most ? most_roles(sheet) : 1);
+        const size_t n = selected.size() / FEO_ROLE_LEN;
+        Bytes *pdu = new Bytes(FEO_BUFFER), *room = new Bytes(FEO_RECORD_LEN), *roles = new Bytes(selected.size());
+        pdu->resize(request(user_of(most ? "" : "CART 1", selected), sheet, pdu->data(), pdu->size()));
+        must(records(*pdu, *room) == 1 + n && *room == sheet && requested(*pdu, gather) == 1, "an RQ with roles is not read back");
+        must(second_read(pdu->data(), pdu->size(), room->data(), room->size(), roles->data(), roles->size()) == 1 + n, "the second program does not read its roles");
+        Measured x = { "roles", most ? with_comma(n) + " roles" : "1 role, version name", { { "feohanna", [=] { return records(*pdu, *room); } }, { "receiving", [=] { return requested(*pdu, gather); } }, { "second", [=] { return second_read(pdu->data(), pdu->size(), room->data(), room->size(), roles->data(), roles->size()); } } } };
+#ifdef WITH_DCMTK
+        must(dcmtk_read(pdu->data(), pdu->size()) == 1, "DCMTK does not read an RQ with roles");
+        x.contenders.push_back({ "dcmtk", [=] { return dcmtk_read(pdu->data(), pdu->size()); } });
+#endif
+        m.push_back(x);
+    }
     for (int same = 0; same < 2; same++) {
         Bytes *proposal = new Bytes(sheet_of(128, 3)), *site = new Bytes(site_of(same != 0)), *answer = new Bytes(FEO_ANSWER_ROOM), *room = new Bytes(proposal->size());
         Bytes *pdu = new Bytes(FEO_BUFFER);

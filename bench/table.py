@@ -17,6 +17,7 @@ GROUPS = {
     "go over": "All PDVs of a P-DATA-TF",
     "read": "Judging and reading an A-ASSOCIATE-RQ",
     "write": "Writing it",
+    "roles": "Judging and reading one that selects roles",
     "choose": "Choosing the answers to 128 contexts x 3",
     "find": "Finding the called title among 8, against reading an RQ of 1 context x 1 too",
 }

@@ -19,7 +19,7 @@
 #include <string.h>
 
 /* The version. While it begins with 0 its second number grows with every change of a call, a name or what a record holds. */
-#define FEO_VERSION "0.7.0"
+#define FEO_VERSION "0.8.0"
 
 /* Room for any PDU that is received or sent. feo_receive asks it of its gather buffer. */
 #define FEO_BUFFER 16390
@@ -45,9 +45,19 @@
 #define FEO_RECORD_TRANSFER_AT 68
 #define FEO_NAME_MAX 64
 
+/* A record of a role sheet and its places; byte 3, and what the name leaves of its field, are zero. feo_put_role writes one. */
+#define FEO_ROLE_LEN 68
+#define FEO_ROLE_UID_LEN_AT 0
+#define FEO_ROLE_SCU_AT 1
+#define FEO_ROLE_SCP_AT 2
+#define FEO_ROLE_UID_AT 4
+
 /* Room for the sheet of any A-ASSOCIATE-RQ (a valid one has at most 3,257 transfer syntaxes) and for any answer (128 contexts). */
 #define FEO_PROPOSAL_ROOM (FEO_RECORD_LEN * 3257)
 #define FEO_ANSWER_ROOM (FEO_RECORD_LEN * 128)
+
+/* Room for the role sheet of any A-ASSOCIATE-RQ or -AC: each role takes at least 9 bytes of it. */
+#define FEO_ROLES_ROOM (FEO_ROLE_LEN * 1810)
 
 /* What stands in front of a fragment in a PDV item: four-byte length, ID, control byte. feo_put_pdv writes it. */
 #define FEO_PDV_HEADER_LEN 6
@@ -110,7 +120,7 @@ enum feo_state_number {
 enum feo_refusal_number {
     FEO_NOT_REFUSED = 0,
     FEO_BLANK_CELL = 1,     /* a local event at a blank cell of Table 9-10 */
-    FEO_SHORT_OUTPUT = 2,   /* out, or the sheet that is filled, is too short; feo_receive always wants 10 bytes of out */
+    FEO_SHORT_OUTPUT = 2,   /* out, or a sheet that is to be filled, is too short; feo_receive always wants 10 bytes of out */
     FEO_SHORT_GATHER = 3,   /* gather is shorter than FEO_BUFFER when receiving, or than the gathered count at a local event */
     FEO_BAD_CONTENTS = 4,   /* bad contents of a local request, title list, sought title, PDV number or place, or any sheet */
     FEO_LONG_PDU = 5,       /* PDU-length to be sent above 16,384, or a P-DATA-TF's above a non-zero peer maximum */
@@ -215,16 +225,48 @@ struct feo_answer {
     size_t shown;     /* length of the PDU that the action shows, at the start of gather; else 0 */
 };
 
-/* What an A-ASSOCIATE-RQ or -AC says, but for its contexts. */
+/* What an A-ASSOCIATE-RQ or -AC says, but for its contexts and roles. From class_at on it is what PS3.7 adds. */
 struct feo_associate {
     uint16_t version;
-    size_t application_at, application_len;  /* where the application context name stands in the PDU */
-    uint32_t maximum;                        /* the greatest PDU-length that the sender takes in a P-DATA-TF; 0: no limit */
-    size_t records;                          /* records written to the sheet */
+    size_t application_at, application_len;    /* where the application context name stands in the PDU */
+    uint32_t maximum;                          /* the greatest PDU-length that the sender takes in a P-DATA-TF; 0: no limit */
+    size_t records;                            /* records written to the sheet */
+    size_t class_at, class_len;                /* where the sender's implementation class UID stands; 0 and 0: there is none */
+    size_t version_name_at, version_name_len;  /* where its implementation version name stands; 0 and 0: there is none */
+    uint16_t invoked, performed;               /* operations at a time; 0: no limit; 1 and 1 also where it says nothing of them */
+    size_t roles;                              /* records written to the role sheet */
+};
+
+/*
+ * What an A-ASSOCIATE-RQ or -AC of ours says by PS3.7: struct feo_user user = FEO_USER; and then what is ours. Refused by 4 where a
+ * part is bad. NULL for the whole counts as empty parts, and so is refused too: a class UID is always sent.
+ */
+struct feo_user {
+    const uint8_t *class_uid;     /* the implementation class UID: a name */
+    size_t class_uid_len;
+    const uint8_t *version_name;  /* the implementation version name: 1 to 16 characters of a title; empty: none is sent */
+    size_t version_name_len;
+    uint16_t invoked, performed;  /* operations at a time; 0: no limit; 1 and 1: nothing is sent of them, which says the same */
+    const uint8_t *roles;         /* a role sheet: roles 0 or 1, no UID twice; empty: none is sent */
+    size_t roles_len;
+};
+
+/* What feo_accept sends. NULL for the whole counts as empty parts. */
+struct feo_accepting {
+    const uint8_t *echoed;       /* the FEO_ECHOED_LEN bytes at FEO_ECHOED_AT of the RQ */
+    size_t echoed_len;
+    const uint8_t *application;  /* the application context name */
+    size_t application_len;
+    const struct feo_user *user;
+    const uint8_t *sheet;        /* an answer */
+    size_t sheet_len;
 };
 
 /* A fresh association: struct feo_assoc a = FEO_FRESH; */
 #define FEO_FRESH { 1, 0, 0, 0, 0, 0 }
+
+/* A user of empty parts, with one operation at a time: where all is zero, PS3.7 reads 'no limit'. */
+#define FEO_USER { NULL, 0, NULL, 0, 1, 1, NULL, 0 }
 
 /* The proved functions. They take an association as its bytes; answer: action, used, sent, shown. Hosts call the ones below. */
 #ifdef __cplusplus
@@ -238,10 +280,15 @@ uint8_t feo_raw_event(
     struct feo_assoc *a, uint8_t event, const uint8_t *gather, size_t gather_len, uint8_t *out, size_t out_len, size_t answer[4]);
 uint8_t feo_raw_confirm(
     struct feo_assoc *a, const uint8_t *called, size_t called_len, const uint8_t *calling, size_t calling_len,
-    const uint8_t *application, size_t application_len, const uint8_t *sheet, size_t sheet_len,
+    const uint8_t *application, size_t application_len,
+    const uint8_t *class_uid, size_t class_uid_len, const uint8_t *version_name, size_t version_name_len,
+    uint16_t invoked, uint16_t performed, const uint8_t *roles, size_t roles_len,
+    const uint8_t *sheet, size_t sheet_len,
     const uint8_t *gather, size_t gather_len, uint8_t *out, size_t out_len, size_t answer[4]);
 uint8_t feo_raw_accept(
     struct feo_assoc *a, const uint8_t *echoed, size_t echoed_len, const uint8_t *application, size_t application_len,
+    const uint8_t *class_uid, size_t class_uid_len, const uint8_t *version_name, size_t version_name_len,
+    uint16_t invoked, uint16_t performed, const uint8_t *roles, size_t roles_len,
     const uint8_t *sheet, size_t sheet_len, const uint8_t *gather, size_t gather_len, uint8_t *out, size_t out_len,
     size_t answer[4]);
 uint8_t feo_raw_reject(
@@ -251,11 +298,15 @@ uint8_t feo_raw_send(
     struct feo_assoc *a, const uint8_t *items, size_t items_len,
     const uint8_t *gather, size_t gather_len, uint8_t *out, size_t out_len, size_t answer[4]);
 uint8_t feo_raw_read_request(
-    const uint8_t *pdu, size_t pdu_len, uint8_t *sheet, size_t sheet_len,
-    uint16_t *version, size_t *application_at, size_t *application_len, uint32_t *maximum, size_t *records);
+    const uint8_t *pdu, size_t pdu_len, uint8_t *sheet, size_t sheet_len, uint8_t *roles, size_t roles_len,
+    uint16_t *version, size_t *application_at, size_t *application_len, uint32_t *maximum, size_t *records,
+    size_t *class_at, size_t *class_len, size_t *version_name_at, size_t *version_name_len,
+    uint16_t *invoked, uint16_t *performed, size_t *role_records);
 uint8_t feo_raw_read_accept(
-    const uint8_t *pdu, size_t pdu_len, uint8_t *sheet, size_t sheet_len,
-    uint16_t *version, size_t *application_at, size_t *application_len, uint32_t *maximum, size_t *records);
+    const uint8_t *pdu, size_t pdu_len, uint8_t *sheet, size_t sheet_len, uint8_t *roles, size_t roles_len,
+    uint16_t *version, size_t *application_at, size_t *application_len, uint32_t *maximum, size_t *records,
+    size_t *class_at, size_t *class_len, size_t *version_name_at, size_t *version_name_len,
+    uint16_t *invoked, uint16_t *performed, size_t *role_records);
 uint8_t feo_raw_read_reject(const uint8_t *pdu, size_t pdu_len, uint8_t *result, uint8_t *source, uint8_t *reason);
 uint8_t feo_raw_read_abort(const uint8_t *pdu, size_t pdu_len, uint8_t *source, uint8_t *reason);
 uint8_t feo_raw_read_data(
@@ -282,6 +333,18 @@ static inline uint8_t *feo_room(uint8_t *p, size_t n)
 {
     static uint8_t none = 0;
     return n != 0 ? p : &none;
+}
+
+static inline const struct feo_user *feo_user_of(const struct feo_user *user)
+{
+    static const struct feo_user none = FEO_USER;
+    return user != NULL ? user : &none;
+}
+
+static inline const struct feo_accepting *feo_accepting_of(const struct feo_accepting *accepting)
+{
+    static const struct feo_accepting none = { NULL, 0, NULL, 0, NULL, NULL, 0 };
+    return accepting != NULL ? accepting : &none;
 }
 
 static inline uint8_t feo_told(struct feo_answer *r, uint8_t refusal, const size_t answer[4])
@@ -330,33 +393,43 @@ static inline uint8_t feo_event(
     return feo_told(r, refusal, answer);
 }
 
-/* The transport connection that we asked for is there: sends an A-ASSOCIATE-RQ. Titles of 16 bytes; the sheet is a proposal. */
+/*
+ * The transport connection that we asked for is there: sends an A-ASSOCIATE-RQ. Titles of 16 bytes; the sheet is a proposal, and so
+ * are the user's roles.
+ */
 static inline uint8_t feo_confirm(
     struct feo_assoc *a, const uint8_t *called, size_t called_len, const uint8_t *calling, size_t calling_len,
-    const uint8_t *application, size_t application_len, const uint8_t *sheet, size_t sheet_len,
+    const uint8_t *application, size_t application_len, const struct feo_user *user, const uint8_t *sheet, size_t sheet_len,
     const uint8_t *gather, size_t gather_len, uint8_t *out, size_t out_len, struct feo_answer *r)
 {
+    const struct feo_user *const u = feo_user_of(user);
     size_t answer[4];
     const uint8_t refusal = feo_raw_confirm(
         a, feo_part(called, called_len), called_len, feo_part(calling, calling_len), calling_len,
-        feo_part(application, application_len), application_len, feo_part(sheet, sheet_len), sheet_len,
+        feo_part(application, application_len), application_len, feo_part(u->class_uid, u->class_uid_len), u->class_uid_len,
+        feo_part(u->version_name, u->version_name_len), u->version_name_len, u->invoked, u->performed,
+        feo_part(u->roles, u->roles_len), u->roles_len, feo_part(sheet, sheet_len), sheet_len,
         feo_part(gather, gather_len), gather_len, feo_room(out, out_len), out_len, answer);
     return feo_told(r, refusal, answer);
 }
 
 /*
- * Accepts: sends an A-ASSOCIATE-AC. echoed: the FEO_ECHOED_LEN bytes at FEO_ECHOED_AT of the RQ; the sheet is an answer. A refused
- * record goes out with an empty transfer syntax sub-item: 4 where its transfer length or a byte of that field is not 0.
+ * Accepts: sends an A-ASSOCIATE-AC. A refused record goes out with an empty transfer syntax sub-item: 4 where its transfer length or
+ * a byte of that field is not 0. The user's roles are those that we accept. Nothing is compared with the RQ.
  */
 static inline uint8_t feo_accept(
-    struct feo_assoc *a, const uint8_t *echoed, size_t echoed_len, const uint8_t *application, size_t application_len,
-    const uint8_t *sheet, size_t sheet_len, const uint8_t *gather, size_t gather_len, uint8_t *out, size_t out_len,
-    struct feo_answer *r)
+    struct feo_assoc *a, const struct feo_accepting *accepting, const uint8_t *gather, size_t gather_len,
+    uint8_t *out, size_t out_len, struct feo_answer *r)
 {
+    const struct feo_accepting *const c = feo_accepting_of(accepting);
+    const struct feo_user *const u = feo_user_of(c->user);
     size_t answer[4];
     const uint8_t refusal = feo_raw_accept(
-        a, feo_part(echoed, echoed_len), echoed_len, feo_part(application, application_len), application_len,
-        feo_part(sheet, sheet_len), sheet_len, feo_part(gather, gather_len), gather_len, feo_room(out, out_len), out_len, answer);
+        a, feo_part(c->echoed, c->echoed_len), c->echoed_len, feo_part(c->application, c->application_len), c->application_len,
+        feo_part(u->class_uid, u->class_uid_len), u->class_uid_len,
+        feo_part(u->version_name, u->version_name_len), u->version_name_len, u->invoked, u->performed,
+        feo_part(u->roles, u->roles_len), u->roles_len, feo_part(c->sheet, c->sheet_len), c->sheet_len,
+        feo_part(gather, gather_len), gather_len, feo_room(out, out_len), out_len, answer);
     return feo_told(r, refusal, answer);
 }
 
@@ -386,25 +459,32 @@ static inline uint8_t feo_send(
 /*
  * The reading calls take a whole PDU: the first r.shown bytes of gather, after a call that shows one. They know no state.
  *
- * Reads an A-ASSOCIATE-RQ and fills the sheet from its start, a record for each transfer syntax, in the PDU's order.
+ * Reads an A-ASSOCIATE-RQ and fills two sheets from their start, in the PDU's order: sheet, a record for each transfer syntax, and
+ * roles, a record for each role selection. 2 where either is too short, and neither is written: lend roles also where you want none.
  */
-static inline uint8_t feo_read_request(const uint8_t *pdu, size_t pdu_len, uint8_t *sheet, size_t sheet_len, struct feo_associate *f)
+static inline uint8_t feo_read_request(
+    const uint8_t *pdu, size_t pdu_len, uint8_t *sheet, size_t sheet_len, uint8_t *roles, size_t roles_len, struct feo_associate *f)
 {
     return feo_raw_read_request(
-        feo_part(pdu, pdu_len), pdu_len, feo_room(sheet, sheet_len), sheet_len,
-        &f->version, &f->application_at, &f->application_len, &f->maximum, &f->records);
+        feo_part(pdu, pdu_len), pdu_len, feo_room(sheet, sheet_len), sheet_len, feo_room(roles, roles_len), roles_len,
+        &f->version, &f->application_at, &f->application_len, &f->maximum, &f->records,
+        &f->class_at, &f->class_len, &f->version_name_at, &f->version_name_len, &f->invoked, &f->performed, &f->roles);
 }
 
 /*
- * Reads an A-ASSOCIATE-AC and fills the sheet, a record for each context. Look at the result first: a refused one has transfer
- * length 0, also where the peer sent a name, since what stands behind its result is not tested. feo_accept takes what was filled
- * here: FEO_BUFFER is room enough, though each refused context may come out up to 4 bytes longer.
+ * Reads an A-ASSOCIATE-AC and fills sheet, a record for each context, and roles. Look at the result first: a refused one has
+ * transfer length 0, also where the peer sent a name, since what stands behind its result is not tested.
+ *
+ * What is read here feo_accept takes, and what feo_read_request reads feo_confirm, with a class UID where the sender gave none:
+ * never 4. By that UID, and by up to 4 bytes for each refused context, it may come out longer, and then be refused with 5.
  */
-static inline uint8_t feo_read_accept(const uint8_t *pdu, size_t pdu_len, uint8_t *sheet, size_t sheet_len, struct feo_associate *f)
+static inline uint8_t feo_read_accept(
+    const uint8_t *pdu, size_t pdu_len, uint8_t *sheet, size_t sheet_len, uint8_t *roles, size_t roles_len, struct feo_associate *f)
 {
     return feo_raw_read_accept(
-        feo_part(pdu, pdu_len), pdu_len, feo_room(sheet, sheet_len), sheet_len,
-        &f->version, &f->application_at, &f->application_len, &f->maximum, &f->records);
+        feo_part(pdu, pdu_len), pdu_len, feo_room(sheet, sheet_len), sheet_len, feo_room(roles, roles_len), roles_len,
+        &f->version, &f->application_at, &f->application_len, &f->maximum, &f->records,
+        &f->class_at, &f->class_len, &f->version_name_at, &f->version_name_len, &f->invoked, &f->performed, &f->roles);
 }
 
 /* Reads an A-ASSOCIATE-RJ. */
@@ -538,6 +618,24 @@ static inline uint8_t feo_put_record(
         memcpy(record + FEO_RECORD_ABSTRACT_AT, abstract, abstract_len);
     if (transfer_len != 0)
         memcpy(record + FEO_RECORD_TRANSFER_AT, transfer, transfer_len);
+    return FEO_NOT_REFUSED;
+}
+
+/*
+ * Writes one record of a role sheet, FEO_ROLE_LEN bytes: the UID of an abstract syntax, and 1 or 0 for the SCU and for the SCP role,
+ * proposed or not by feo_confirm, accepted or not by feo_accept. 4, and nothing is written, where the UID is longer than
+ * FEO_NAME_MAX; all else about a record those calls test.
+ */
+static inline uint8_t feo_put_role(uint8_t *record, const void *uid, size_t uid_len, uint8_t scu, uint8_t scp)
+{
+    if (uid_len > FEO_NAME_MAX)
+        return FEO_BAD_CONTENTS;
+    memset(record, 0, FEO_ROLE_LEN);
+    record[FEO_ROLE_UID_LEN_AT] = uid_len & 0xFF;
+    record[FEO_ROLE_SCU_AT] = scu;
+    record[FEO_ROLE_SCP_AT] = scp;
+    if (uid_len != 0)
+        memcpy(record + FEO_ROLE_UID_AT, uid, uid_len);
     return FEO_NOT_REFUSED;
 }
 

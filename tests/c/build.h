@@ -1,4 +1,4 @@
-/* Bytes of PDUs, items and sheets, as document 01 describes them. */
+/* Bytes of PDUs, items and sheets, as documents 01 and 02 describe them. */
 #ifndef BUILD_H
 #define BUILD_H
 
@@ -74,6 +74,9 @@ static inline void ten(struct bytes *pdu, unsigned type, unsigned a, unsigned b,
 #define ECHO_CLASS "1.2.840.10008.1.1"
 #define IMPLICIT "1.2.840.10008.1.2"
 
+/* The implementation class UID of every 50H here, in an arc that is for examples. */
+#define CLASS_UID "2.999.1"
+
 /* Names of 64 bytes. */
 #define SIXTY_FOUR "1.234567890123456789012345678901234567890123456789012345678901.9"
 #define OTHER_SIXTY_FOUR "1.234567890123456789012345678901234567890123456789012345678901.8"
@@ -89,14 +92,37 @@ static inline void add_fixed(struct bytes *b, unsigned version)
     add(b, zero, 32);
 }
 
-/* User information: 51H with this maximum. */
+/* A 51H with this maximum. */
+static inline void add_maximum(struct bytes *b, size_t maximum)
+{
+    struct bytes four;
+    four.n = 0;
+    add_four(&four, maximum);
+    add_item(b, 0x51, four.at, 4);
+}
+
+/* User information: a 51H and a 52H, so many bytes with the 50H's own four. */
+#define USER_LEN (4 + 8 + 4 + sizeof CLASS_UID - 1)
+
 static inline void add_user(struct bytes *b, size_t maximum)
 {
-    struct bytes four, user;
-    four.n = user.n = 0;
-    add_four(&four, maximum);
-    add_item(&user, 0x51, four.at, 4);
+    struct bytes user;
+    user.n = 0;
+    add_maximum(&user, maximum);
+    add_name(&user, 0x52, CLASS_UID);
     add_item(b, 0x50, user.at, user.n);
+}
+
+/* A 54H: two-byte length of the UID, the UID, the SCU and the SCP role. */
+static inline void add_role(struct bytes *b, const char *uid, unsigned scu, unsigned scp)
+{
+    struct bytes body;
+    body.n = 0;
+    add_two(&body, strlen(uid));
+    add(&body, uid, strlen(uid));
+    add_byte(&body, scu);
+    add_byte(&body, scp);
+    add_item(b, 0x54, body.at, body.n);
 }
 
 /* An RQ with one context, ID 1, of these three names. */

@@ -22,6 +22,7 @@ static struct outcome {
     int64_t due[32];  /* when ARTIM expires, after each action */
     size_t actions;
     char taken[65]; /* at AE-3: the transfer syntax in which context 1 is taken; empty: refused */
+    char made[200]; /* what each request, and each acceptance, says of its sender */
     size_t filed[3]; /* bytes of data that came for each of our stores */
     size_t for_us; /* and on lines that we asked for */
     const struct store *store; /* which one the line has at its end */
@@ -101,14 +102,37 @@ static struct store stores[STORES] = {
 };
 static uint8_t titles[STORES * FEO_TITLE_LEN];
 
-/* What the peer's acceptance says of context 1. */
-static void hears(const struct line *l, size_t shown)
+/* What we say of ourselves: a class UID alone, as the PDUs of build.h; a line may be given another. */
+static const struct feo_user class_alone = { (const uint8_t *)CLASS_UID, sizeof CLASS_UID - 1, NULL, 0, 1, 1, NULL, 0 };
+static const struct feo_user *our_user = &class_alone;
+
+/* Where a test answers the roles that are proposed: this user, in place of the line's own. */
+static const struct feo_user *answering_user;
+
+void heard(struct line *l, const struct feo_associate *f, const uint8_t *roles)
 {
-    uint8_t sheet[FEO_ANSWER_ROOM];
+    const char *pdu = (const char *)l->gather;
+    size_t i;
+    must(strlen(got.made) < 100, "an end to what is said");
+    sprintf(got.made + strlen(got.made), "%.*s;%.*s;%u;%u", (int)f->class_len, pdu + f->class_at, (int)f->version_name_len, pdu + f->version_name_at,
+        f->invoked, f->performed);
+    for (i = 0; i < f->roles; i++, roles += FEO_ROLE_LEN)
+        sprintf(got.made + strlen(got.made), ";%.*s %d %d", roles[FEO_ROLE_UID_LEN_AT], (const char *)roles + FEO_ROLE_UID_AT,
+            roles[FEO_ROLE_SCU_AT], roles[FEO_ROLE_SCP_AT]);
+    strcat(got.made, ". ");
+    if (answering_user != NULL)
+        l->user = answering_user;
+}
+
+/* What the peer's acceptance says of itself, and of context 1. */
+static void hears(struct line *l, size_t shown)
+{
+    uint8_t sheet[FEO_ANSWER_ROOM], roles[FEO_ROLES_ROOM];
     struct feo_associate f;
     const uint8_t *name;
     size_t n;
-    must(feo_read_accept(l->gather, shown, sheet, sizeof sheet, &f) == FEO_NOT_REFUSED, "an acceptance that is shown is read");
+    must(feo_read_accept(l->gather, shown, sheet, sizeof sheet, roles, sizeof roles, &f) == FEO_NOT_REFUSED, "an acceptance that is shown is read");
+    heard(l, &f, roles);
     name = taken(sheet, f.records, 1, &n);
     if (name != NULL)
         memcpy(got.taken, name, n);
@@ -193,6 +217,7 @@ static void talk(const struct bytes *bytes, struct peer peer, long us)
         close(ends[0]);
     ticking(us);
     l.fd = ends[1];
+    l.user = our_user;
     l.store = &stores[AVIAN]; /* the line was that store's before */
     serve(&l);
     got.store = l.store;
@@ -215,6 +240,7 @@ static void asks(const char *called, const uint8_t *command, size_t n, int conne
     memset(&got, 0, sizeof got);
     must(socketpair(AF_UNIX, SOCK_STREAM, 0, ends) == 0 && (child = fork()) >= 0, "a pair of sockets, a child");
     l.fd = ends[child != 0];
+    l.user = our_user;
     close(ends[child == 0]);
     ticking(1500);
     if (child == 0) {
@@ -272,6 +298,7 @@ static void association(void)
 static void is_served(const char *how)
 {
     must(sees("AE-5 AE-6 AE-7 DT-2 DT-2 AR-2 AR-4 AR-5 ") && got.fragments == 5017 && comes_back(&back), how);
+    must(strcmp(got.made, CLASS_UID ";;1;1. ") == 0, how);
     must(got.filed[EQUINE] == 5017 && got.store == &stores[EQUINE], how);
 }
 
@@ -454,6 +481,7 @@ static void two_lines(void)
     for (i = 0; i < 2; i++) {
         must(socketpair(AF_UNIX, SOCK_STREAM, 0, ends[i]) == 0, "a pair of sockets");
         lines[i].fd = ends[i][1];
+        lines[i].user = our_user;
         feo_fresh(&lines[i].a);
         tell(&lines[i], FEO_TRANSPORT_INDICATION);
     }
@@ -521,6 +549,108 @@ static void stores_written(void)
     some[7].title = good[7];
     must(write_stores(own, some, 8) == FEO_NOT_REFUSED, "eight stores again");
     must(write_stores(titles, stores, STORES) == FEO_NOT_REFUSED, "our stores");
+}
+
+/* A request or an acceptance, whose last item, the 50H, has these sub-items in place of its own. */
+static void says(struct bytes *bytes, const struct bytes *subs)
+{
+    struct bytes b;
+    b.n = 0;
+    add(&b, bytes->at + FEO_HEADER_LEN, bytes->n - FEO_HEADER_LEN - USER_LEN);
+    add_item(&b, 0x50, subs->at, subs->n);
+    whole(bytes, bytes->at[0], &b);
+}
+
+/* What we say of ourselves is tested before it is sent; what a peer says is heard, also where it is rejected. */
+static void made(void)
+{
+    static const struct feo_user empty = FEO_USER, zero;
+    static uint8_t roles[2 * FEO_ROLE_LEN], many[2000 * FEO_ROLE_LEN];
+    static struct bytes subs;
+    struct feo_user some = class_alone;
+    char uid[8];
+    size_t i;
+    must(test_user(&class_alone) == FEO_NOT_REFUSED, "a class UID is enough");
+    must(test_user(NULL) == FEO_BAD_CONTENTS && test_user(&empty) == FEO_BAD_CONTENTS && test_user(&zero) == FEO_BAD_CONTENTS, "and without one there is none");
+    some.version_name = (const uint8_t *)"OF SIXTEEN CHARS+";
+    some.version_name_len = 16;
+    must(test_user(&some) == FEO_NOT_REFUSED, "a version name of 16 characters");
+    some.version_name_len = 17;
+    must(test_user(&some) == FEO_BAD_CONTENTS, "one of 17");
+    some.version_name_len = 2;
+    feo_put_role(roles, ECHO_CLASS, strlen(ECHO_CLASS), 1, 0);
+    feo_put_role(roles + FEO_ROLE_LEN, CR_IMAGE, strlen(CR_IMAGE), 0, 1);
+    some.roles = roles;
+    some.roles_len = sizeof roles;
+    some.invoked = 0;
+    must(test_user(&some) == FEO_NOT_REFUSED, "two roles");
+    feo_put_role(roles + FEO_ROLE_LEN, ECHO_CLASS, strlen(ECHO_CLASS), 0, 1);
+    must(test_user(&some) == FEO_BAD_CONTENTS, "two for one UID");
+    feo_put_role(roles + FEO_ROLE_LEN, CR_IMAGE, strlen(CR_IMAGE), 0, 1);
+    for (i = 0; i < 2000; i++) {
+        sprintf(uid, "%u", (unsigned)i);
+        feo_put_role(many + i * FEO_ROLE_LEN, uid, strlen(uid), 1, 1);
+    }
+    some.roles = many;
+    some.roles_len = sizeof many;
+    must(test_user(&some) == FEO_LONG_PDU, "more roles than a PDU can have");
+    some.roles = roles;
+    some.roles_len = sizeof roles;
+
+    /* a peer that says much, taken and rejected; and our answer, by a user of the line's own */
+    subs.n = 0;
+    add_maximum(&subs, 16384);
+    add_name(&subs, 0x52, "2.999.7");
+    add_item(&subs, 0x53, "\0\3\0\0", 4);
+    add_role(&subs, ECHO_CLASS, 1, 1);
+    add_role(&subs, CR_IMAGE, 0, 1);
+    add_name(&subs, 0x55, "A PEER 1.0");
+    all = rq;
+    says(&all, &subs);
+    acceptance(&back, 1, 0, 16384);
+    talk(&all, AT_ONCE, 0);
+    must(sees("AE-5 AE-6 AE-7 AA-4 ") && comes_back(&back), "a request that says all that PS3.7 has");
+    must(strcmp(got.made, "2.999.7;A PEER 1.0;3;0;" ECHO_CLASS " 1 1;" CR_IMAGE " 0 1. ") == 0, "it is heard");
+    subs.n = 0;
+    add_maximum(&subs, 16384);
+    add_name(&subs, 0x52, CLASS_UID);
+    add_item(&subs, 0x53, "\0\0\0\1", 4);
+    add_role(&subs, ECHO_CLASS, 1, 0);
+    add_role(&subs, CR_IMAGE, 0, 1);
+    add_name(&subs, 0x55, "OF");
+    says(&back, &subs);
+    answering_user = &some;
+    talk(&all, AT_ONCE, 0);
+    must(sees("AE-5 AE-6 AE-7 AA-4 ") && comes_back(&back), "roles are answered");
+    answering_user = NULL;
+    memcpy(all.at + FEO_CALLED_AT, "NOBODY          ", FEO_TITLE_LEN);
+    talk(&all, AT_ONCE, 0);
+    must(sees("AE-5 AE-6 AE-8 AR-5 ") && strncmp(got.made, "2.999.7;", 8) == 0, "who is rejected is heard too");
+
+    /* one that says nothing but its maximum */
+    subs.n = 0;
+    add_maximum(&subs, 16384);
+    all = rq;
+    says(&all, &subs);
+    acceptance(&back, 1, 0, 16384);
+    talk(&all, AT_ONCE, 0);
+    must(sees("AE-5 AE-6 AE-7 AA-4 ") && comes_back(&back) && strcmp(got.made, ";;1;1. ") == 0, "a request without names");
+
+    /* one that repeats a role */
+    add_role(&subs, ECHO_CLASS, 1, 0);
+    add_role(&subs, ECHO_CLASS, 1, 0);
+    all = rq;
+    says(&all, &subs);
+    ten(&back, 7, 0, 0, 0, 0);
+    talk(&all, AT_ONCE, 0);
+    must(sees("AE-5 AA-1 AR-5 ") && comes_back(&back) && got.made[0] == 0, "two roles for one UID: an abort in Sta2, and nothing is heard");
+
+    /* without a user nothing is accepted or asked */
+    our_user = NULL;
+    talk(&rq, AT_ONCE, 0);
+    must(told("AE-5 AE-6 AA-1 AR-5 ", "feo_accept: bad contents. "), "no user: it is told, and aborted");
+    our_user = &class_alone;
+    association();
 }
 
 static uint8_t sleeps_at;
@@ -636,6 +766,10 @@ static void requestor(void)
     must(sees("AE-1 AA-4 "), "a connection that is not there");
     asks("BACK\\SLASH      ", command, 0, 1);
     must(told("AE-1 AA-2 ", "feo_confirm: bad contents. "), "a title that may not be sent is told, and ends it");
+    our_user = NULL;
+    asks("STORE-EQUINE    ", command, 0, 1);
+    must(told("AE-1 AA-2 ", "feo_confirm: bad contents. "), "so is no user");
+    our_user = &class_alone;
 }
 
 /* A requestor whose peer has written an AC, perhaps more, and closes. */
@@ -647,6 +781,7 @@ static void answered_by(const struct bytes *bytes)
     must(socketpair(AF_UNIX, SOCK_STREAM, 0, ends) == 0 && write(ends[0], bytes->at, bytes->n) == (ssize_t)bytes->n, "an AC is there");
     must(shutdown(ends[0], SHUT_WR) == 0, "and nothing behind");
     l.fd = ends[1];
+    l.user = our_user;
     l.store = &stores[AVIAN];
     deliver(&l, "STORE-EQUINE    ", "NIGHT-SCANNER   ", (const uint8_t *)"x", 1);
     close(ends[0]);
@@ -657,7 +792,7 @@ static void accepted_by(const struct bytes *ac, const char *name)
 {
     answered_by(ac);
     must(told("AE-1 AE-2 AE-3 AA-1 AR-5 ", "feo_fragment_max: PDU too long. "), "no room for data is told, and ends it");
-    must(strcmp(got.taken, name) == 0, "the acceptance says what is taken");
+    must(strcmp(got.taken, name) == 0 && strcmp(got.made, CLASS_UID ";;1;1. ") == 0, "the acceptance says what is taken, and by whom");
 }
 
 /* A context that is taken, and one that is refused: with an empty name, a good one, a part of one, and none. */
@@ -758,6 +893,7 @@ int main(void)
     answered();
     called();
     two_lines();
+    made();
     times();
     goes();
     requestor();

@@ -1,187 +1,8 @@
 /*
- * Calls every function of include/feohanna.h, good and refused. Each call runs in a world with guard bytes, of which a copy says what
- * it is to become: whatever a call changes beyond that shows. Expected values are those of documents 01 and 02. In the common part
- * of C99 and C++.
+ * Calls every function of include/feohanna.h, good and refused; user.c has what a request and an acceptance say by PS3.7. Expected
+ * values are those of documents 01 and 02. In the common part of C99 and C++.
  */
-#include "build.h"
-#include "check.h"
-#include "feohanna.h"
-
-/* ---- the world */
-
-struct world {
-    uint8_t guard0[64];
-    struct feo_assoc a;
-    uint8_t guard1[64];
-    struct feo_answer r;
-    uint8_t guard2[64];
-    uint8_t gather[FEO_BUFFER];
-    uint8_t guard3[64];
-    uint8_t out[FEO_BUFFER];
-    uint8_t guard4[64];
-};
-
-static struct world w, want;
-
-static int timed(unsigned state)
-{
-    return state == 2 || state == 13;
-}
-
-/* A sound association in this state, all else filled with a pattern. */
-static void given(unsigned state)
-{
-    size_t i;
-    uint8_t *p = (uint8_t *)&w;
-    for (i = 0; i < sizeof w; i++)
-        p[i] = (uint8_t)(i * 37 + state);
-    feo_fresh(&w.a);
-    w.a.state = (uint8_t)state;
-    w.a.artim = (uint8_t)timed(state);
-}
-
-static void before(void)
-{
-    memcpy(&want, &w, sizeof w);
-}
-
-static void told(int line, uint8_t got, unsigned refusal, unsigned action, size_t used, size_t sent, size_t shown)
-{
-    want.r.refusal = (uint8_t)refusal;
-    want.r.action = (uint8_t)action;
-    want.r.used = used;
-    want.r.sent = sent;
-    want.r.shown = shown;
-    check(line, got == refusal, "the refusal that is returned");
-    check(line, w.r.refusal == refusal, "refusal");
-    check(line, w.r.action == action, "action");
-    check(line, w.r.used == used, "used");
-    check(line, w.r.sent == sent, "sent");
-    check(line, w.r.shown == shown, "shown");
-    check(line, memcmp(w.out, want.out, FEO_BUFFER) == 0, "out");
-    check(line, memcmp(w.gather, want.gather, FEO_BUFFER) == 0, "gather");
-    check(line, w.a.state == want.a.state, "state");
-    check(line, memcmp(&w, &want, sizeof w) == 0, "the world, all of it");
-}
-
-/* Nothing changes, and the numbers handed out are 0. */
-#define REFUSED(call, refusal) (before(), told(__LINE__, (call), (refusal), 0, 0, 0, 0))
-
-/* The association enters a state; marks are stored as 0 or 1. */
-static void enters(unsigned state)
-{
-    want.a.state = (uint8_t)state;
-    want.a.deaf = want.a.deaf != 0;
-    want.a.requestor = want.a.requestor != 0;
-    want.a.artim = (uint8_t)timed(state);
-    if (state == 1) {
-        want.a.gathered = 0;
-        want.a.deaf = want.a.requestor = 0;
-        want.a.peer_max = 0;
-    }
-}
-
-/* A local event is answered: `want` is what was before but for what is said here. */
-static void local(int line, uint8_t got, unsigned action, unsigned state, const void *sent, size_t n)
-{
-    enters(state);
-    if (n != 0)
-        memcpy(want.out, sent, n);
-    told(line, got, 0, action, 0, n, 0);
-}
-
-#define LOCAL(call, action, state, sent, count) (before(), local(__LINE__, (call), (action), (state), (sent), (count)))
-
-/* Bytes are received. */
-static void heard(int line, const uint8_t *piece, size_t length, unsigned action, unsigned state, size_t used, const void *sent, size_t n, size_t shown)
-{
-    uint8_t got;
-    before();
-    got = feo_receive(&w.a, w.gather, FEO_BUFFER, piece, length, w.out, FEO_BUFFER, &w.r);
-    if (want.a.state != 1 && want.a.state != 4 && want.a.deaf == 0) {
-        if (used != 0)
-            memcpy(want.gather + want.a.gathered, piece, used);
-        want.a.gathered = action != 0 ? 0 : want.a.gathered + used;
-    }
-    if (n != 0)
-        memcpy(want.out, sent, n);
-    want.a.peer_max = w.a.peer_max;
-    if (used == 6 && action != 0 && length >= 6 && piece[4] == 0x40 && piece[5] == 1)
-        want.a.deaf = 1;
-    enters(state);
-    if (state == 1)
-        check(line, w.a.peer_max == 0, "peer maximum in Sta1");
-    told(line, got, 0, action, used, n, shown);
-}
-
-#define HEARD(pdu, action, state, sent, count, shown) \
-    heard(__LINE__, (pdu).at, (pdu).n, (action), (state), (pdu).n, (sent), (count), (shown))
-
-/* ---- what is sent in ten bytes */
-
-static const uint8_t ABORT_USER[] = { 7, 0, 0, 0, 0, 4, 0, 0, 0, 0 };
-static const uint8_t ABORT_UNRECOGNIZED[] = { 7, 0, 0, 0, 0, 4, 0, 0, 2, 1 };
-static const uint8_t ABORT_UNEXPECTED[] = { 7, 0, 0, 0, 0, 4, 0, 0, 2, 2 };
-static const uint8_t ABORT_INVALID[] = { 7, 0, 0, 0, 0, 4, 0, 0, 2, 6 };
-static const uint8_t REJECT_VERSION[] = { 3, 0, 0, 0, 0, 4, 0, 1, 2, 2 };
-static const uint8_t RELEASE_RQ[] = { 5, 0, 0, 0, 0, 4, 0, 0, 0, 0 };
-static const uint8_t RELEASE_RP[] = { 6, 0, 0, 0, 0, 4, 0, 0, 0, 0 };
-
-/* ---- the calls with the world's buffers */
-
-static uint8_t event(unsigned number, size_t gather_len, size_t out_len)
-{
-    return feo_event(&w.a, (uint8_t)number, w.gather, gather_len, w.out, out_len, &w.r);
-}
-
-static struct bytes called, calling, application, proposal, echoed, answers, items;
-static unsigned result, source, reason;
-
-static uint8_t confirm(size_t gather_len, size_t out_len)
-{
-    return feo_confirm(
-        &w.a, called.at, called.n, calling.at, calling.n, application.at, application.n, proposal.at, proposal.n,
-        w.gather, gather_len, w.out, out_len, &w.r);
-}
-
-static uint8_t accept_it(size_t gather_len, size_t out_len)
-{
-    return feo_accept(
-        &w.a, echoed.at, echoed.n, application.at, application.n, answers.at, answers.n, w.gather, gather_len, w.out, out_len, &w.r);
-}
-
-static uint8_t reject(size_t gather_len, size_t out_len)
-{
-    return feo_reject(&w.a, (uint8_t)result, (uint8_t)source, (uint8_t)reason, w.gather, gather_len, w.out, out_len, &w.r);
-}
-
-static uint8_t send_it(size_t gather_len, size_t out_len)
-{
-    return feo_send(&w.a, items.at, items.n, w.gather, gather_len, w.out, out_len, &w.r);
-}
-
-static uint8_t release(size_t gather_len, size_t out_len)
-{
-    return event(FEO_RELEASE_REQUEST, gather_len, out_len);
-}
-
-/* Contents that are good. */
-static void good_contents(void)
-{
-    size_t i;
-    called.n = calling.n = application.n = proposal.n = echoed.n = answers.n = items.n = 0;
-    add(&called, "STORE-EQUINE    ", 16);
-    add(&calling, "NIGHT-SCANNER   ", 16);
-    add(&application, APPLICATION, strlen(APPLICATION));
-    add_record(&proposal, 1, 0, ECHO_CLASS, IMPLICIT);
-    for (i = 0; i < 64; i++)
-        add_byte(&echoed, (unsigned)(i * 5 + 200));
-    add_record(&answers, 1, 0, "", IMPLICIT);
-    add_pdv(&items, 1, 3, "ab", 2);
-    result = 1;
-    source = 1;
-    reason = 7;
-}
+#include "world.h"
 
 /* ---- Table 9-10 of PS3.8, and the next states of Tables 9-6 to 9-9 */
 
@@ -247,8 +68,9 @@ static void header(void)
     CHECK(FEO_ECHOED_AT == 10 && FEO_ECHOED_LEN == 64 && FEO_HEADER_LEN == 6 && FEO_LONGEST == 16384 && FEO_PDV_HEADER_LEN == 6);
     CHECK(FEO_RECORD_LEN == 132 && FEO_RECORD_ID_AT == 0 && FEO_RECORD_RESULT_AT == 1 && FEO_RECORD_ABSTRACT_LEN_AT == 2);
     CHECK(FEO_RECORD_TRANSFER_LEN_AT == 3 && FEO_RECORD_ABSTRACT_AT == 4 && FEO_RECORD_TRANSFER_AT == 68 && FEO_NAME_MAX == 64);
-    CHECK(FEO_PROPOSAL_ROOM == 429924 && FEO_ANSWER_ROOM == 16896);
-    CHECK(FEO_PROPOSAL_ROOM / FEO_PROPOSAL_ROOM == 1 && FEO_ANSWER_ROOM / FEO_ANSWER_ROOM == 1);
+    CHECK(FEO_ROLE_LEN == 68 && FEO_ROLE_UID_LEN_AT == 0 && FEO_ROLE_SCU_AT == 1 && FEO_ROLE_SCP_AT == 2 && FEO_ROLE_UID_AT == 4);
+    CHECK(FEO_PROPOSAL_ROOM == 429924 && FEO_ANSWER_ROOM == 16896 && FEO_ROLES_ROOM == 123080);
+    CHECK(FEO_PROPOSAL_ROOM / FEO_PROPOSAL_ROOM == 1 && FEO_ANSWER_ROOM / FEO_ANSWER_ROOM == 1 && FEO_ROLES_ROOM / FEO_ROLES_ROOM == 1);
     CHECK(strcmp(FEO_APPLICATION_CONTEXT, APPLICATION) == 0 && FEO_APPLICATION_CONTEXT_LEN == strlen(APPLICATION));
     CHECK(FEO_CONTEXT_ACCEPTED == 0 && FEO_CONTEXT_USER_REJECTION == 1 && FEO_CONTEXT_NO_REASON == 2);
     CHECK(FEO_CONTEXT_ABSTRACT_NOT_SUPPORTED == 3 && FEO_CONTEXT_TRANSFER_NOT_SUPPORTED == 4);
@@ -339,7 +161,7 @@ static void cases_1_2(void)
     CHECK(w.a.deaf == 0);
 }
 
-/* Case 3: the RQ has PDU-length 155 and 161 bytes, its AC 134 and 140; both read back. */
+/* Case 3: the RQ has PDU-length 155 and 161 bytes, its AC 134 and 140, and by E4 both so many more as the 52H has; both read back. */
 static void case_3(void)
 {
     static struct bytes rq, ac;
@@ -347,19 +169,19 @@ static void case_3(void)
     struct feo_associate f;
     good_contents();
     request(&rq, 1, APPLICATION, ECHO_CLASS, IMPLICIT);
-    CHECK(rq.n == 161 && rq.at[5] == 155);
+    CHECK(rq.n == 161 + 11 && rq.at[5] == 155 + 11);
     given(4);
     w.a.requestor = 1;
-    LOCAL(confirm(FEO_BUFFER, FEO_BUFFER), FEO_AE_2, 5, rq.at, 161);
+    LOCAL(confirm(FEO_BUFFER, FEO_BUFFER), FEO_AE_2, 5, rq.at, 172);
 
     acceptance(&ac, 1, 0, 16384);
     memcpy(ac.at + 10, echoed.at, 64);
-    CHECK(ac.n == 140 && ac.at[5] == 134);
+    CHECK(ac.n == 140 + 11 && ac.at[5] == 134 + 11);
     given(3);
-    LOCAL(accept_it(FEO_BUFFER, FEO_BUFFER), FEO_AE_7, 6, ac.at, 140);
+    LOCAL(accept_it(FEO_BUFFER, FEO_BUFFER), FEO_AE_7, 6, ac.at, 151);
 
-    CHECK(feo_read_request(rq.at, rq.n, sheet, FEO_RECORD_LEN, &f) == 0 && f.records == 1 && memcmp(sheet, proposal.at, FEO_RECORD_LEN) == 0);
-    CHECK(feo_read_accept(ac.at, ac.n, sheet, FEO_RECORD_LEN, &f) == 0 && f.records == 1 && memcmp(sheet, answers.at, FEO_RECORD_LEN) == 0);
+    CHECK(feo_read_request(rq.at, rq.n, sheet, FEO_RECORD_LEN, NULL, 0, &f) == 0 && f.records == 1 && memcmp(sheet, proposal.at, FEO_RECORD_LEN) == 0);
+    CHECK(feo_read_accept(ac.at, ac.n, sheet, FEO_RECORD_LEN, NULL, 0, &f) == 0 && f.records == 1 && memcmp(sheet, answers.at, FEO_RECORD_LEN) == 0);
 }
 
 /* ---- the title check */
@@ -592,14 +414,6 @@ static void titles_refused(void)
 
 /* The answer to generated lists, as documents 01 and 02 have it. */
 
-static uint32_t drawn = 1;
-
-static unsigned draw(unsigned below)
-{
-    drawn = drawn * 1664525 + 1013904223;
-    return (unsigned)((drawn >> 8) % below);
-}
-
 /* The characters of a title without its outer spaces: where they begin, and how many they are. */
 static size_t inner(const uint8_t *title, size_t *from)
 {
@@ -759,11 +573,11 @@ static void case_10(void)
     for (i = 0; i < sizeof names / sizeof *names; i++) {
         unsigned refusal = names[i].valid ? 0 : 7;
         request(&pdu, 1, names[i].name, ECHO_CLASS, IMPLICIT);
-        CHECK(feo_read_request(pdu.at, pdu.n, sheet, FEO_RECORD_LEN, &f) == refusal);
+        CHECK(feo_read_request(pdu.at, pdu.n, sheet, FEO_RECORD_LEN, NULL, 0, &f) == refusal);
         request(&pdu, 1, APPLICATION, names[i].name, IMPLICIT);
-        CHECK(feo_read_request(pdu.at, pdu.n, sheet, FEO_RECORD_LEN, &f) == refusal);
+        CHECK(feo_read_request(pdu.at, pdu.n, sheet, FEO_RECORD_LEN, NULL, 0, &f) == refusal);
         request(&pdu, 1, APPLICATION, ECHO_CLASS, names[i].name);
-        CHECK(feo_read_request(pdu.at, pdu.n, sheet, FEO_RECORD_LEN, &f) == refusal);
+        CHECK(feo_read_request(pdu.at, pdu.n, sheet, FEO_RECORD_LEN, NULL, 0, &f) == refusal);
         given(2);
         if (names[i].valid)
             HEARD(pdu, FEO_AE_6, 3, 0, 0, pdu.n);
@@ -943,11 +757,11 @@ static void local_refusals(void)
         size_t sent;
     } calls[] = {
         { release, FEO_RELEASE_REQUEST, 6, FEO_AR_1, 7, 10 },
-        { accept_it, FEO_ACCEPT_RESPONSE, 3, FEO_AE_7, 6, 140 },
+        { accept_it, FEO_ACCEPT_RESPONSE, 3, FEO_AE_7, 6, 151 },
         { reject, FEO_REJECT_RESPONSE, 3, FEO_AE_8, 13, 10 },
         { send_it, FEO_DATA_REQUEST, 6, FEO_DT_1, 6, 14 },
         { send_it, FEO_DATA_REQUEST, 8, FEO_AR_7, 8, 14 },
-        { confirm, FEO_TRANSPORT_CONFIRM, 4, FEO_AE_2, 5, 161 }
+        { confirm, FEO_TRANSPORT_CONFIRM, 4, FEO_AE_2, 5, 172 }
     };
     size_t i;
     unsigned state;
@@ -1084,9 +898,9 @@ static void long_sheet(void)
     for (i = 0; i < 40000; i++)
         memcpy(sheet + i * FEO_RECORD_LEN, proposal.at, FEO_RECORD_LEN);
     given(4);
-    REFUSED(feo_confirm(&w.a, called.at, 16, calling.at, 16, application.at, application.n, sheet, n, NULL, 0, w.out, 0, &w.r), 5);
+    REFUSED(feo_confirm(&w.a, called.at, 16, calling.at, 16, application.at, application.n, &user, sheet, n, NULL, 0, w.out, 0, &w.r), 5);
     sheet[n - FEO_RECORD_LEN + FEO_RECORD_ID_AT] = 4;
-    REFUSED(feo_confirm(&w.a, called.at, 16, calling.at, 16, application.at, application.n, sheet, n, NULL, 0, w.out, 0, &w.r), 4);
+    REFUSED(feo_confirm(&w.a, called.at, 16, calling.at, 16, application.at, application.n, &user, sheet, n, NULL, 0, w.out, 0, &w.r), 4);
     free(sheet);
 }
 
@@ -1173,6 +987,8 @@ static void unread(int line, uint8_t got, unsigned refusal, const struct feo_ass
     size_t i;
     check(line, got == refusal, "the refusal");
     check(line, f->version == 0 && f->application_at == 0 && f->application_len == 0 && f->maximum == 0 && f->records == 0, "zeros");
+    check(line, f->class_at == 0 && f->class_len == 0 && f->version_name_at == 0 && f->version_name_len == 0, "zeros of the names");
+    check(line, f->invoked == 0 && f->performed == 0 && f->roles == 0, "zeros of operations and roles");
     for (i = 0; i < n; i++)
         check(line, sheet[i] == 0xEE, "the sheet stays");
 }
@@ -1210,17 +1026,17 @@ static void reading(void)
     memset(room, 0xEE, sizeof room);
     for (n = 0; n < 3 * FEO_RECORD_LEN; n += FEO_RECORD_LEN - 1) {
         memset(&f, 0xEE, sizeof f);
-        unread(__LINE__, feo_read_request(pdu.at, pdu.n, room, n, &f), 2, &f, room, sizeof room);
+        unread(__LINE__, feo_read_request(pdu.at, pdu.n, room, n, NULL, 0, &f), 2, &f, room, sizeof room);
     }
     memset(&f, 0xEE, sizeof f);
-    unread(__LINE__, feo_read_request(pdu.at, pdu.n, NULL, 0, &f), 2, &f, room, sizeof room);
+    unread(__LINE__, feo_read_request(pdu.at, pdu.n, NULL, 0, NULL, 0, &f), 2, &f, room, sizeof room);
     memset(&f, 0xEE, sizeof f);
-    unread(__LINE__, feo_read_request(pdu.at, pdu.n - 1, room, sizeof room, &f), 7, &f, room, sizeof room);
+    unread(__LINE__, feo_read_request(pdu.at, pdu.n - 1, room, sizeof room, NULL, 0, &f), 7, &f, room, sizeof room);
     memset(&f, 0xEE, sizeof f);
-    unread(__LINE__, feo_read_accept(pdu.at, pdu.n, room, sizeof room, &f), 7, &f, room, sizeof room);
+    unread(__LINE__, feo_read_accept(pdu.at, pdu.n, room, sizeof room, NULL, 0, &f), 7, &f, room, sizeof room);
     memset(&f, 0xEE, sizeof f);
-    unread(__LINE__, feo_read_request(NULL, 0, NULL, 0, &f), 7, &f, room, sizeof room);
-    CHECK(feo_read_request(pdu.at, pdu.n, room, sizeof room, &f) == 0);
+    unread(__LINE__, feo_read_request(NULL, 0, NULL, 0, NULL, 0, &f), 7, &f, room, sizeof room);
+    CHECK(feo_read_request(pdu.at, pdu.n, room, sizeof room, NULL, 0, &f) == 0);
     CHECK(f.version == 0xFF01 && f.maximum == 0xFFFFFFFFU && f.records == 3);
     CHECK(f.application_len == strlen(APPLICATION) && memcmp(pdu.at + f.application_at, APPLICATION, f.application_len) == 0);
     CHECK(memcmp(room, sheet.at, 3 * FEO_RECORD_LEN) == 0 && room[3 * FEO_RECORD_LEN] == 0xEE && room[5 * FEO_RECORD_LEN - 1] == 0xEE);
@@ -1235,14 +1051,16 @@ static void reading(void)
     for (n = 0; n < 3257; n++)
         add_name(&context, 0x40, "0");
     add_item(&b, 0x20, context.at, context.n);
-    add_user(&b, 0);
+    context.n = 0;
+    add_maximum(&context, 0);
+    add_item(&b, 0x50, context.at, context.n);
     whole(&pdu, 1, &b);
     CHECK(pdu.n <= FEO_BUFFER && pdu.n + 5 > FEO_BUFFER);
     {
         uint8_t *great = (uint8_t *)malloc(FEO_PROPOSAL_ROOM);
         CHECK(great != NULL);
-        CHECK(feo_read_request(pdu.at, pdu.n, great, FEO_PROPOSAL_ROOM - 1, &f) == 2 && f.records == 0);
-        CHECK(feo_read_request(pdu.at, pdu.n, great, FEO_PROPOSAL_ROOM, &f) == 0 && f.records == 3257 && f.maximum == 0);
+        CHECK(feo_read_request(pdu.at, pdu.n, great, FEO_PROPOSAL_ROOM - 1, NULL, 0, &f) == 2 && f.records == 0);
+        CHECK(feo_read_request(pdu.at, pdu.n, great, FEO_PROPOSAL_ROOM, NULL, 0, &f) == 0 && f.records == 3257 && f.maximum == 0);
         CHECK(great[FEO_PROPOSAL_ROOM - FEO_RECORD_LEN] == 1 && great[FEO_PROPOSAL_ROOM - FEO_RECORD_LEN + FEO_RECORD_TRANSFER_AT] == '0');
         free(great);
     }
@@ -1250,17 +1068,17 @@ static void reading(void)
     acceptance(&pdu, 1, 4, 7);
     memset(room, 0xEE, sizeof room);
     memset(&f, 0xEE, sizeof f);
-    unread(__LINE__, feo_read_accept(pdu.at, pdu.n, room, FEO_RECORD_LEN - 1, &f), 2, &f, room, sizeof room);
+    unread(__LINE__, feo_read_accept(pdu.at, pdu.n, room, FEO_RECORD_LEN - 1, NULL, 0, &f), 2, &f, room, sizeof room);
     memset(&f, 0xEE, sizeof f);
-    unread(__LINE__, feo_read_request(pdu.at, pdu.n, room, FEO_RECORD_LEN, &f), 7, &f, room, sizeof room);
-    CHECK(feo_read_accept(pdu.at, pdu.n, room, FEO_RECORD_LEN, &f) == 0 && f.version == 1 && f.maximum == 7 && f.records == 1);
+    unread(__LINE__, feo_read_request(pdu.at, pdu.n, room, FEO_RECORD_LEN, NULL, 0, &f), 7, &f, room, sizeof room);
+    CHECK(feo_read_accept(pdu.at, pdu.n, room, FEO_RECORD_LEN, NULL, 0, &f) == 0 && f.version == 1 && f.maximum == 7 && f.records == 1);
     CHECK(memcmp(pdu.at + f.application_at, APPLICATION, f.application_len) == 0 && f.application_len == strlen(APPLICATION));
     sheet.n = 0;
     add_record(&sheet, 1, 4, "", "");
     CHECK(memcmp(room, sheet.at, FEO_RECORD_LEN) == 0 && room[FEO_RECORD_LEN] == 0xEE);
     acceptance(&pdu, 2, 0, 7);
     memset(&f, 0xEE, sizeof f);
-    CHECK(feo_read_accept(pdu.at, pdu.n, room, FEO_RECORD_LEN, &f) == 7 && f.maximum == 0);
+    CHECK(feo_read_accept(pdu.at, pdu.n, room, FEO_RECORD_LEN, NULL, 0, &f) == 7 && f.maximum == 0);
     /* an RJ, an ABORT */
     ten(&pdu, 3, 0xFF, 2, 1, 7);
     CHECK(feo_read_reject(pdu.at, pdu.n, &x, &y, &z) == 0 && x == 2 && y == 1 && z == 7);
@@ -1490,8 +1308,8 @@ static void records(void)
     whole(&pdu, 2, &b);
     given(3);
     LOCAL(accept_it(0, FEO_BUFFER), FEO_AE_7, 6, pdu.at, pdu.n);
-    CHECK(feo_read_accept(pdu.at, pdu.n, sheet, FEO_ANSWER_ROOM - 1, &f) == 2 && f.records == 0);
-    CHECK(feo_read_accept(pdu.at, pdu.n, sheet, FEO_ANSWER_ROOM, &f) == 0 && f.records == 128 && memcmp(sheet, answers.at, FEO_ANSWER_ROOM) == 0);
+    CHECK(feo_read_accept(pdu.at, pdu.n, sheet, FEO_ANSWER_ROOM - 1, NULL, 0, &f) == 2 && f.records == 0);
+    CHECK(feo_read_accept(pdu.at, pdu.n, sheet, FEO_ANSWER_ROOM, NULL, 0, &f) == 0 && f.records == 128 && memcmp(sheet, answers.at, FEO_ANSWER_ROOM) == 0);
     good_contents();
 }
 
@@ -1540,12 +1358,13 @@ static void is_read(int line, const struct bytes *ac, const struct bytes *sheet)
     static uint8_t room[FEO_ANSWER_ROOM + 64];
     static struct bytes again;
     struct feo_associate f;
+    struct feo_accepting c;
     size_t i, refused = 0;
     uint8_t got;
     memset(room, 0xEE, sizeof room);
     memset(&f, 0xEE, sizeof f);
-    unread(line, feo_read_accept(ac->at, ac->n, room, sheet->n - 1, &f), 2, &f, room, sheet->n);
-    check(line, feo_read_accept(ac->at, ac->n, room, sheet->n, &f) == 0, "the AC is read");
+    unread(line, feo_read_accept(ac->at, ac->n, room, sheet->n - 1, NULL, 0, &f), 2, &f, room, sheet->n);
+    check(line, feo_read_accept(ac->at, ac->n, room, sheet->n, NULL, 0, &f) == 0, "the AC is read");
     check(line, f.version == 1 && f.maximum == 5000 && f.records * FEO_RECORD_LEN == sheet->n, "version, maximum, count of records");
     check(line, f.application_len == strlen(APPLICATION) && memcmp(ac->at + f.application_at, APPLICATION, f.application_len) == 0, "the application context name");
     check(line, memcmp(room, sheet->at, sheet->n) == 0, "the sheet");
@@ -1561,12 +1380,11 @@ static void is_read(int line, const struct bytes *ac, const struct bytes *sheet)
     check(line, again.n <= ac->n + 4 * refused, "written again it is little longer");
     given(3);
     before();
-    got = feo_accept(
-        &w.a, ac->at + FEO_ECHOED_AT, FEO_ECHOED_LEN, ac->at + f.application_at, f.application_len, room, sheet->n,
-        w.gather, FEO_BUFFER, w.out, FEO_BUFFER, &w.r);
+    c = accepts(ac->at, &f, room, sheet->n);
+    got = feo_accept(&w.a, &c, w.gather, FEO_BUFFER, w.out, FEO_BUFFER, &w.r);
     local(line, got, FEO_AE_7, 6, again.at, again.n);
     memset(room, 0xEE, sizeof room);
-    check(line, feo_read_accept(w.out, w.r.sent, room, sheet->n, &f) == 0 && memcmp(room, sheet->at, sheet->n) == 0, "it reads as before");
+    check(line, feo_read_accept(w.out, w.r.sent, room, sheet->n, NULL, 0, &f) == 0 && memcmp(room, sheet->at, sheet->n) == 0, "it reads as before");
 }
 
 /* An AC with these contexts is none: it is not read, and in Sta5 it is an invalid PDU. */
@@ -1578,7 +1396,7 @@ static void is_none(int line, const struct bytes *contexts)
     accepting(&ac, 1, contexts, 5000);
     memset(room, 0xEE, sizeof room);
     memset(&f, 0xEE, sizeof f);
-    unread(line, feo_read_accept(ac.at, ac.n, room, sizeof room, &f), 7, &f, room, sizeof room);
+    unread(line, feo_read_accept(ac.at, ac.n, room, sizeof room, NULL, 0, &f), 7, &f, room, sizeof room);
     given(5);
     heard(line, ac.at, ac.n, FEO_AA_8, 13, ac.n, ABORT_INVALID, 10, 0);
 }
@@ -1611,7 +1429,7 @@ static void behind_it(unsigned answered, size_t k)
 /* A refused context: what stands behind its four fixed bytes is not tested, and its record has no name; all else is as with an accepted one. */
 static void refused_read(void)
 {
-    static const uint8_t lengths[] = { 4, 8 + 12, 8 + 13 }, rubbish[16271] = { 0x40, 0, 0xFF };
+    static const uint8_t lengths[] = { 4, 8 + USER_LEN, 8 + USER_LEN + 1 }, rubbish[16283 - USER_LEN] = { 0x40, 0, 0xFF };
     static struct bytes contexts, ac, sheet;
     unsigned answered, id, k;
     size_t i;
@@ -1656,7 +1474,7 @@ static void refused_read(void)
             add_context(&contexts, 0x07000000 | (size_t)(answered % 5) << 8, NAMED, sizeof NAMED - 1);
             is_none(__LINE__, &contexts);
         }
-    /* its length is the way to the next item: into a 40H that is skipped, over the 50H (12 bytes), past the PDU's end */
+    /* its length is the way to the next item: into a 40H that is skipped, over the 50H, past the PDU's end */
     for (i = 0; i < sizeof lengths; i++) {
         contexts.n = sheet.n = 0;
         add_context(&contexts, 0x01000300, "\x40\x00\x00\x00", 4);
@@ -1717,10 +1535,10 @@ static void refused_sent(void)
         add_record(&answers, 9, answered, "", "");
         of_sheet(&pdu, 2, &answers);
         memcpy(pdu.at + FEO_ECHOED_AT, echoed.at, FEO_ECHOED_LEN);
-        CHECK(pdu.n == 123 && memcmp(pdu.at + 99, item, 12) == 0);
+        CHECK(pdu.n == 134 && memcmp(pdu.at + 99, item, 12) == 0);
         given(3);
-        REFUSED(accept_it(0, 122), 2);
-        LOCAL(accept_it(0, 123), FEO_AE_7, 6, pdu.at, 123);
+        REFUSED(accept_it(0, 133), 2);
+        LOCAL(accept_it(0, 134), FEO_AE_7, 6, pdu.at, 134);
         REFUSED(accept_it(0, FEO_BUFFER), 1);
         /* with a name */
         for (i = 0; i < sizeof names / sizeof *names; i++) {
@@ -1835,6 +1653,7 @@ static void chained(int line, const struct bytes *answer)
     static struct bytes rq, ac;
     static uint8_t sheet[FEO_PROPOSAL_ROOM], own[FEO_ANSWER_ROOM], back[FEO_ANSWER_ROOM];
     struct feo_associate f;
+    struct feo_accepting c;
     uint8_t got;
     size_t n;
     of_sheet(&rq, 1, &proposal);
@@ -1843,15 +1662,14 @@ static void chained(int line, const struct bytes *answer)
     memset(own, 0xEE, sizeof own);
     given(2);
     heard(line, rq.at, rq.n, FEO_AE_6, 3, rq.n, 0, 0, rq.n);
-    check(line, feo_read_request(w.gather, w.r.shown, sheet, sizeof sheet, &f) == 0, "the request is read");
+    check(line, feo_read_request(w.gather, w.r.shown, sheet, sizeof sheet, NULL, 0, &f) == 0, "the request is read");
     check(line, feo_choose(sheet, f.records * FEO_RECORD_LEN, site.at, site.n, own, sizeof own, &n) == 0, "its answer is chosen");
     before();
-    got = feo_accept(
-        &w.a, w.gather + FEO_ECHOED_AT, FEO_ECHOED_LEN, w.gather + f.application_at, f.application_len, own, n * FEO_RECORD_LEN,
-        w.gather, FEO_BUFFER, w.out, FEO_BUFFER, &w.r);
+    c = accepts(w.gather, &f, own, n * FEO_RECORD_LEN);
+    got = feo_accept(&w.a, &c, w.gather, FEO_BUFFER, w.out, FEO_BUFFER, &w.r);
     local(line, got, FEO_AE_7, 6, ac.at, ac.n);
-    check(line, w.r.sent <= rq.n, "it is no longer than the request");
-    check(line, feo_read_accept(w.out, w.r.sent, back, sizeof back, &f) == 0 && f.records == n, "what is sent is read");
+    check(line, w.r.sent <= rq.n, "it is no longer than the request, which says as much of its sender");
+    check(line, feo_read_accept(w.out, w.r.sent, back, sizeof back, NULL, 0, &f) == 0 && f.records == n, "what is sent is read");
     check(line, n * FEO_RECORD_LEN == answer->n && memcmp(back, answer->at, answer->n) == 0, "it is the answer");
     check(line, feo_choose(sheet, sizeof sheet, site.at, site.n, own, sizeof own, &n) == 4 && n == 0, "the whole buffer is none");
 }
@@ -2167,8 +1985,8 @@ static void fragment_max(void)
                 HEARD(pdu, FEO_AE_3, 6, 0, 0, pdu.n);
             } else {
                 request(&pdu, 1, APPLICATION, ECHO_CLASS, IMPLICIT);
-                pdu.n -= 4;
-                add_four(&pdu, peers[i].peer_max);
+                pdu.n -= USER_LEN;
+                add_user(&pdu, peers[i].peer_max);
                 given(2);
                 HEARD(pdu, FEO_AE_6, 3, 0, 0, pdu.n);
                 CHECK(accept_it(0, FEO_BUFFER) == 0);

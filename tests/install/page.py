@@ -6,7 +6,7 @@ import re
 import sys
 
 # what the header has for its own calls alone
-INNER = re.compile(r"feo_raw_\w*|feo_part|feo_room|feo_told")
+INNER = re.compile(r"feo_raw_\w*|feo_part|feo_room|feo_user_of|feo_accepting_of|feo_told")
 LITERAL = re.compile(r"^\.Bd -literal.*\n((?:.*\n)*?)\.Ed$", re.M)
 PROTOTYPE = re.compile(r"^\.Ft (.+)\n\.(?:Fn (\w+) (.+)|Fo (\w+)\n((?:\.Fa .+\n)+)\.Fc)$", re.M)
 VALUE = r'\b(FEO_\w+) = (\d+|"[^"]*")'

@@ -14,7 +14,7 @@ use Rattle.names.specs.Name.{nameOk}
 use Rattle.items.specs.Items.{Walk, walk, bodies, first, goodBodies}
 use Rattle.items.specs.Private.Rules.{keeps}
 use Rattle.items.proofs.RuleLaws.{keeping}
-use Rattle.contents.specs.Contents.{answerKnown, userKnown, named, one, subsOk, transferItemOk, userGood, topOk, maximumIn}
+use Rattle.contents.specs.Contents.{answerKnown, named, one, subsOk, transferItemOk, topOk, maximumIn}
 use Rattle.contents.specs.Private.Order.{subRule, topRule}
 use Rattle.contents.proofs.OrderLaws.{sub-is, top-is}
 use Rattle.contents.proofs.GoodLaws.{one-good}
@@ -26,11 +26,7 @@ eqb-is r x y p = rw p
 pub transfer-is : (r : Bool) (x : List ℕ) (w : Walk) → one 0x40 w ≡ true → x ≡ first (bodies 0x40 w) → r ≡ nameOk x → r ≡ goodBodies answerKnown named w
 transfer-is r x w o p q = q ∙ (ap nameOk p ∙ one-good 0x40 w o named)
 
-pub maximum-fits : (x : List ℕ) (w : Walk) → one 0x51 w ≡ true → x ≡ first (bodies 0x51 w) → eqb (length x) 4 ≡ goodBodies userKnown userGood w
-unfolding userGood
-maximum-fits x w o p = ap (λ (l : List ℕ). eqb (length l) 4) p ∙ one-good 0x51 w o userGood
-
-pub ruleset counting = (deciding, pick-true, pick-false, eqb-is, transfer-is, maximum-fits, needs)
+pub ruleset counting = (deciding, pick-true, pick-false, eqb-is, transfer-is, needs)
 
 -- ---- what follows the four bytes of a context, as the code has it
 pub tail-subs : (r : Bool) (b : List ℕ) → r ≡ subsOk (walk (take (length b - 4) (drop 4 b))) → r ≡ subsOk (walk (drop 4 b))

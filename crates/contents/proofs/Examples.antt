@@ -4,17 +4,19 @@ use Prim.Native.Nat.{ℕ}
 use mathlib.Core.Bool.{true, not, _&&_}
 use mathlib.Core.List.{List, [], _∷_, _++_}
 use mathlib.Core.Path.{_≡_, refl}
-use Rattle.laws.specs.Lists.{all, distinct}
+use Rattle.laws.specs.Lists.{all, distinct, differ}
 use Rattle.laws.specs.Text.{bytes}
 use Rattle.octets.specs.Octets.{be32}
 use Rattle.names.specs.Name.{nameOk}
 use Rattle.items.specs.Wire.{itemBytes}
 use Rattle.items.proofs.Examples.{items-open}
-use Rattle.contents.specs.Contents.{one, subsOk, good20H, transferItemOk, good21H, userGood, good50H, contextGood, topGood, topOk, ids, itemsOk, maximumIn}
+use Rattle.roles.specs.Role.{roleOk}
+use Rattle.user_items.specs.Kinds.{fourLong, versionOk, uidIn, roleOf, good54H, kept, subItemsOk, good50H}
+use Rattle.contents.specs.Contents.{one, subsOk, good20H, transferItemOk, good21H, contextGood, topGood, topOk, ids, itemsOk, maximumIn}
 
 -- what the definitions of the items' rules compute with, by one name for an `unfolding` line
 unfoldable pub contents-open : Unit {0}
-unfolding items-open itemsOk topOk subsOk one good20H transferItemOk good21H userGood good50H contextGood topGood ids maximumIn nameOk distinct be32
+unfolding items-open fourLong versionOk uidIn roleOf roleOk good54H kept subItemsOk good50H differ itemsOk topOk subsOk one good20H transferItemOk good21H contextGood topGood ids maximumIn nameOk distinct be32
 contents-open = tt
 
 -- an item of a type whose body is the name "1"
@@ -49,6 +51,8 @@ good =
     ∷ (named 0x10 ++ (proposed 1 ++ (answer [] ++ user)))
     -- what stands in a skipped item is not looked at: a 10H, and a 20H that passes the end
     ∷ (named 0x10 ++ (proposed 1 ++ (user ++ itemBytes 0xF0 (named 0x10 ++ (0x20 ∷ 0 ∷ 0xFF ∷ 0xFF ∷ 1 ∷ [])))))
+    -- 52H to 55H outside a 50H are of other types: malformed ones, at the top and in a context
+    ∷ (itemBytes 0x52 [] ++ (named 0x10 ++ (context 1 (itemBytes 0x54 [] ++ (named 0x30 ++ named 0x40)) ++ (itemBytes 0x53 (1 ∷ []) ++ (user ++ itemBytes 0x55 [])))))
     -- a 10H inside a 50H is not a second one
     ∷ (named 0x10 ++ (proposed 1 ++ itemBytes 0x50 (named 0x10 ++ maximum)))
     ∷ []
@@ -73,6 +77,8 @@ bad =
     ∷ (named 0x10 ++ (context 1 (named 0x30 ++ (named 0x40 ++ itemBytes 0x40 (bytes "1."))) ++ user))
     -- a 20H of three bytes
     ∷ (named 0x10 ++ (itemBytes 0x20 (1 ∷ 0 ∷ 0 ∷ []) ++ user))
+    -- a malformed 52H in the 50H
+    ∷ (named 0x10 ++ (proposed 1 ++ itemBytes 0x50 (maximum ++ itemBytes 0x52 [])))
     -- a second 51H, of another length
     ∷ (named 0x10 ++ (proposed 1 ++ itemBytes 0x50 (maximum ++ itemBytes 0x51 (0 ∷ 0 ∷ 0 ∷ []))))
     ∷ []

@@ -15,7 +15,7 @@ use Rattle.items.specs.Items.{Walk, walk, filled, bodies, first, goodBodies}
 use Rattle.items.proofs.HoldLaws.{first-good, held-filled, held-good}
 use Rattle.numbers.specs.Results.{ACCEPTED}
 use Rattle.octets.specs.Octets.{odd}
-use Rattle.contents.specs.Contents.{topKnown, answerKnown, named, one, subsOk, good20H, transferItemOk, good21H, userGood, good50H, contextGood, topGood, topOk, ids, itemsOk}
+use Rattle.contents.specs.Contents.{topKnown, answerKnown, named, one, subsOk, good20H, transferItemOk, good21H, contextGood, topGood, topOk, ids, itemsOk}
 use Rattle.contents.proofs.Meaning.{Sub, subs-some, subs-hold, sub-counts, Top, top-some, top-holds, top-counts}
 
 -- ---- a good 20H
@@ -103,16 +103,6 @@ module _ (b : List ℕ) (g : good21H b ≡ true) where
 
     pub transfer-name : nameOk (first (bodies 0x40 (walk (drop 4 b)))) ≡ true
     transfer-name = one-good 0x40 (walk (drop 4 b)) one-21 named ∙ right-of (one 0x40 (walk (drop 4 b))) _ item-21
-
--- ---- a good 50H
-module _ (b : List ℕ) (g : good50H b ≡ true) where
-  pub one-50 : one 0x51 (walk b) ≡ true
-  unfolding good50H
-  one-50 = left-of _ _ g
-
-  pub maximum-four : length (first (bodies 0x51 (walk b))) ≡ 4
-  unfolding good50H userGood
-  maximum-four = eqb-true _ _ (one-good 0x51 (walk b) one-50 userGood ∙ right-of (one 0x51 (walk b)) _ g)
 
 -- ---- the items
 module _ (k : ℕ) (s : List ℕ) (g : itemsOk k s ≡ true) where

@@ -16,7 +16,8 @@ use Rattle.items.specs.Items.{Walk, filled, bodies, types, only, goodBodies, ho
 use Rattle.items.specs.Private.Rules.{keeps}
 use Rattle.items.proofs.RuleLaws.{stateAfter, keeps-is}
 use Rattle.items.proofs.HoldLaws.{times, times-types, times-only, times-same}
-use Rattle.contents.specs.Contents.{topKnown, contextKnown, named, contextOrder, subsOk, good50H, contextGood, topGood, topOrder, topOk}
+use Rattle.user_items.specs.Kinds.{good50H}
+use Rattle.contents.specs.Contents.{topKnown, contextKnown, named, contextOrder, subsOk, contextGood, topGood, topOrder, topOk}
 use Rattle.contents.specs.Private.Order.{wrong, next, inOrder, subGood, subRule, topRule}
 
 -- the order told apart, and put as the definitions have it

@@ -6,9 +6,23 @@ use Rattle.reading.specs.declared.values.AbortRead.{AbortRead}
 use Rattle.reading.specs.declared.data.DataRead.{DataRead}
 use Rattle.choosing.specs.declared.Chosen.{Chosen}
 
-abbrev pub associate : ℕ → ℕ → ℕ → ℕ → ℕ → ℕ → Associate
-associate refusal version at len maximum records =
-    record { refusal = refusal; version = version; «application_at» = at; «application_len» = len; maximum = maximum; records = records }
+abbrev pub associate : ℕ → ℕ → ℕ → ℕ → ℕ → ℕ → ℕ → ℕ → ℕ → ℕ → ℕ → ℕ → ℕ → Associate
+associate refusal version at len maximum records classAt classLen versionAt versionLen invoked performed roles =
+    record {
+      refusal = refusal;
+      version = version;
+      «application_at» = at;
+      «application_len» = len;
+      maximum = maximum;
+      records = records;
+      «class_at» = classAt;
+      «class_len» = classLen;
+      «version_name_at» = versionAt;
+      «version_name_len» = versionLen;
+      invoked = invoked;
+      performed = performed;
+      roles = roles;
+    }
 
 abbrev pub reject : ℕ → ℕ → ℕ → ℕ → RejectRead
 reject refusal result source reason = record { refusal = refusal; result = result; source = source; reason = reason }

@@ -2,6 +2,7 @@
 use assoc_bytes::assoc_of;
 use assoc_bytes::hand_out;
 ghost use mathlib.Core.Path.{_≡_};
+ghost use Rattle.user_items.specs.Sent.{userOf};
 ghost use Rattle.writing.specs.Fields.{rqOf, acOf, rejectOf, itemsOf};
 ghost use Rattle.association.specs.Events.{Local.plain, Local.confirm, Local.accept, Local.reject, Local.send};
 ghost use Rattle.association.specs.Calls.{receiveOf, localOf};
@@ -48,16 +49,34 @@ pub extern "C" fn feo_raw_confirm(
     called: &[u8],
     calling: &[u8],
     application: &[u8],
+    class_uid: &[u8],
+    version_name: &[u8],
+    invoked: u16,
+    performed: u16,
+    roles: &[u8],
     sheet: &[u8],
     gather: &[u8],
     out: &mut [u8],
     answer: &mut [usize; 4],
 ) -> u8
     ensures { λ r. ⌜ handed r (now (answer .exit)) (now (assoc .exit)) (now (gather .entry)) (now (out .exit))
-        ≡ handOut (now (assoc .entry)) (λ a. localOf a (now (gather .entry)) (now (out .entry)) (confirm (rqOf (now (called .entry)) (now (calling .entry)) (now (application .entry)) (now (sheet .entry))))) ⌝ }
+        ≡ handOut (now (assoc .entry)) (λ a. localOf a (now (gather .entry)) (now (out .entry)) (confirm (rqOf (now (called .entry)) (now (calling .entry)) (now (application .entry)) (userOf (now («class_uid» .entry)) (now («version_name» .entry)) invoked performed (now (roles .entry))) (now (sheet .entry))))) ⌝ }
 {
     let a = assoc_of(*assoc);
-    let r = requests::confirm(a, called, calling, application, sheet, gather, out);
+    let r = requests::confirm(
+        a,
+        called,
+        calling,
+        application,
+        class_uid,
+        version_name,
+        invoked,
+        performed,
+        roles,
+        sheet,
+        gather,
+        out,
+    );
     hand_out(r, assoc, answer)
 }
 
@@ -67,16 +86,33 @@ pub extern "C" fn feo_raw_accept(
     assoc: &mut [u8; 16],
     echoed: &[u8],
     application: &[u8],
+    class_uid: &[u8],
+    version_name: &[u8],
+    invoked: u16,
+    performed: u16,
+    roles: &[u8],
     sheet: &[u8],
     gather: &[u8],
     out: &mut [u8],
     answer: &mut [usize; 4],
 ) -> u8
     ensures { λ r. ⌜ handed r (now (answer .exit)) (now (assoc .exit)) (now (gather .entry)) (now (out .exit))
-        ≡ handOut (now (assoc .entry)) (λ a. localOf a (now (gather .entry)) (now (out .entry)) (accept (acOf (now (echoed .entry)) (now (application .entry)) (now (sheet .entry))))) ⌝ }
+        ≡ handOut (now (assoc .entry)) (λ a. localOf a (now (gather .entry)) (now (out .entry)) (accept (acOf (now (echoed .entry)) (now (application .entry)) (userOf (now («class_uid» .entry)) (now («version_name» .entry)) invoked performed (now (roles .entry))) (now (sheet .entry))))) ⌝ }
 {
     let a = assoc_of(*assoc);
-    let r = requests::accept(a, echoed, application, sheet, gather, out);
+    let r = requests::accept(
+        a,
+        echoed,
+        application,
+        class_uid,
+        version_name,
+        invoked,
+        performed,
+        roles,
+        sheet,
+        gather,
+        out,
+    );
     hand_out(r, assoc, answer)
 }
 

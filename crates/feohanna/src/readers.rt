@@ -10,21 +10,38 @@ ghost use Rattle.feohanna.specs.Fields.{associate, reject, abort, pdvFie
 pub extern "C" fn feo_raw_read_request(
     pdu: &[u8],
     sheet: &mut [u8],
+    roles: &mut [u8],
     version: &mut u16,
     application_at: &mut usize,
     application_len: &mut usize,
     maximum: &mut u32,
     records: &mut usize,
+    class_at: &mut usize,
+    class_len: &mut usize,
+    version_name_at: &mut usize,
+    version_name_len: &mut usize,
+    invoked: &mut u16,
+    performed: &mut u16,
+    role_records: &mut usize,
 ) -> u8
-    ensures { λ r. ⌜ Read ASSOCIATE-RQ (now (pdu .entry)) (now (sheet .entry))
-        (associate r (now (version .exit)) (now («application_at» .exit)) (now («application_len» .exit)) (now (maximum .exit)) (now (records .exit))) (now (sheet .exit)) ⌝ }
+    ensures { λ r. ⌜ Read ASSOCIATE-RQ (now (pdu .entry)) (now (sheet .entry)) (now (roles .entry))
+        (associate r (now (version .exit)) (now («application_at» .exit)) (now («application_len» .exit)) (now (maximum .exit)) (now (records .exit))
+        (now («class_at» .exit)) (now («class_len» .exit)) (now («version_name_at» .exit)) (now («version_name_len» .exit)) (now (invoked .exit)) (now (performed .exit)) (now («role_records» .exit)))
+        (now (sheet .exit)) (now (roles .exit)) ⌝ }
 {
-    let f = reading::read_request(pdu, sheet);
+    let f = reading::read_request(pdu, sheet, roles);
     *version = f.version;
     *application_at = f.application_at;
     *application_len = f.application_len;
     *maximum = f.maximum;
     *records = f.records;
+    *class_at = f.class_at;
+    *class_len = f.class_len;
+    *version_name_at = f.version_name_at;
+    *version_name_len = f.version_name_len;
+    *invoked = f.invoked;
+    *performed = f.performed;
+    *role_records = f.roles;
     f.refusal
 }
 
@@ -32,21 +49,38 @@ pub extern "C" fn feo_raw_read_request(
 pub extern "C" fn feo_raw_read_accept(
     pdu: &[u8],
     sheet: &mut [u8],
+    roles: &mut [u8],
     version: &mut u16,
     application_at: &mut usize,
     application_len: &mut usize,
     maximum: &mut u32,
     records: &mut usize,
+    class_at: &mut usize,
+    class_len: &mut usize,
+    version_name_at: &mut usize,
+    version_name_len: &mut usize,
+    invoked: &mut u16,
+    performed: &mut u16,
+    role_records: &mut usize,
 ) -> u8
-    ensures { λ r. ⌜ Read ASSOCIATE-AC (now (pdu .entry)) (now (sheet .entry))
-        (associate r (now (version .exit)) (now («application_at» .exit)) (now («application_len» .exit)) (now (maximum .exit)) (now (records .exit))) (now (sheet .exit)) ⌝ }
+    ensures { λ r. ⌜ Read ASSOCIATE-AC (now (pdu .entry)) (now (sheet .entry)) (now (roles .entry))
+        (associate r (now (version .exit)) (now («application_at» .exit)) (now («application_len» .exit)) (now (maximum .exit)) (now (records .exit))
+        (now («class_at» .exit)) (now («class_len» .exit)) (now («version_name_at» .exit)) (now («version_name_len» .exit)) (now (invoked .exit)) (now (performed .exit)) (now («role_records» .exit)))
+        (now (sheet .exit)) (now (roles .exit)) ⌝ }
 {
-    let f = reading::read_accept(pdu, sheet);
+    let f = reading::read_accept(pdu, sheet, roles);
     *version = f.version;
     *application_at = f.application_at;
     *application_len = f.application_len;
     *maximum = f.maximum;
     *records = f.records;
+    *class_at = f.class_at;
+    *class_len = f.class_len;
+    *version_name_at = f.version_name_at;
+    *version_name_len = f.version_name_len;
+    *invoked = f.invoked;
+    *performed = f.performed;
+    *role_records = f.roles;
     f.refusal
 }
 

@@ -104,7 +104,7 @@ module _ (f : List ℕ → List ℕ) (t : ℕ) (s o₀ : List ℕ) (from : ℕ) 
       both-room : n + (length (f (bodyAt s at e)) + length (each f (bodies t (walk (drop e s))))) ≤ length o
       both-room = let z = ap length split ∙ length-append (f (bodyAt s at e)) (each f (bodies t (walk (drop e s)))) in let r = w .room in omega arith
 
-      fill-room : n + length (f (take (e - (at + 4)) (drop (at + 4) s))) ≤ length o
+      pub fill-room : n + length (f (take (e - (at + 4)) (drop (at + 4) s))) ≤ length o
       fill-room = let r = both-room in omega arith
 
       pub fill-next : (o′ : List ℕ) (n′ : ℕ) → Put o n (f (take (e - (at + 4)) (drop (at + 4) s))) n′ o′ → Filling f t s o₀ from o′ n′ e

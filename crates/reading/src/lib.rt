@@ -2,6 +2,9 @@
 mod associate;
 mod data;
 mod fill;
+mod role_sheet;
+mod two_sheets;
+mod user;
 mod values;
 
 pub use associate::Associate;

@@ -22,31 +22,46 @@ use crate::words::NUMBER;
 use crate::words::SECOND;
 use crate::words::SHEET;
 use crate::words::SHEET_LENGTH;
+use crate::words::SHORT;
 use crate::words::Words;
 use crate::words::bytes;
 use crate::words::number;
 use crate::words::words_by;
 use crate::writers;
 
+// Up to three words, and the length of the buffer that the call lends.
+fn words(first: u8, second: u8, third: u8, lent: u8) -> [u8; 10] {
+    [
+        first, second, third, NONE, NONE, NONE, NONE, NONE, NONE, lent,
+    ]
+}
+
+// The words of an RQ or AC that is to be written: those before the user information (of an AC there is no first), its five, and the sheet.
+fn associate_words(first: u8, lent: u8) -> [u8; 10] {
+    [
+        first, BYTES, BYTES, BYTES, BYTES, SHORT, SHORT, SHEET, SHEET, lent,
+    ]
+}
+
 // The words behind a call's letter, or behind the RECORD of a machine call; the last is the length of the buffer that the call lends.
-fn kinds_of(call: u8) -> [u8; 5] {
+fn kinds_of(call: u8) -> [u8; 10] {
     match call {
-        b'r' | b'd' | b'K' | b'J' | b'B' | b'N' | b'V' => [BYTES, NONE, NONE, NONE, NONE],
-        b'E' | b'T' => [BYTES, BYTES, NONE, NONE, NONE],
-        b'D' | b'P' => [BYTES, NUMBER, NONE, NONE, NONE],
-        b'Q' | b'A' => [BYTES, NONE, NONE, NONE, SHEET_LENGTH],
-        b'C' => [SHEET, SHEET, NONE, NONE, SHEET_LENGTH],
-        b'e' => [BYTE, NONE, NONE, NONE, NONE],
-        b'j' => [BYTE, BYTE, BYTE, NONE, NONE],
-        b'c' => [BYTES, BYTES, BYTES, SHEET, NONE],
-        b'a' => [BYTES, BYTES, SHEET, NONE, NONE],
-        b'1' => [BYTES, BYTES, BYTES, SHEET, LENGTH],
-        b'2' => [BYTES, BYTES, SHEET, NONE, LENGTH],
-        b'3' => [BYTE, BYTE, BYTE, NONE, LENGTH],
-        b'4' => [BYTES, NONE, NONE, NONE, LENGTH],
-        b'5' | b'6' => [NONE, NONE, NONE, NONE, LENGTH],
-        b'7' => [BYTE, BYTE, NONE, NONE, LENGTH],
-        _ => [NONE, NONE, NONE, NONE, NONE],
+        b'r' | b'd' | b'K' | b'J' | b'B' | b'N' | b'V' => words(BYTES, NONE, NONE, NONE),
+        b'E' | b'T' => words(BYTES, BYTES, NONE, NONE),
+        b'D' | b'P' => words(BYTES, NUMBER, NONE, NONE),
+        b'Q' | b'A' => words(BYTES, SHEET_LENGTH, NONE, SHEET_LENGTH),
+        b'C' => words(SHEET, SHEET, NONE, SHEET_LENGTH),
+        b'e' => words(BYTE, NONE, NONE, NONE),
+        b'j' => words(BYTE, BYTE, BYTE, NONE),
+        b'c' => associate_words(BYTES, NONE),
+        b'a' => associate_words(NONE, NONE),
+        b'1' => associate_words(BYTES, LENGTH),
+        b'2' => associate_words(NONE, LENGTH),
+        b'3' => words(BYTE, BYTE, BYTE, LENGTH),
+        b'4' => words(BYTES, NONE, NONE, LENGTH),
+        b'5' | b'6' => words(NONE, NONE, NONE, LENGTH),
+        b'7' => words(BYTE, BYTE, NONE, LENGTH),
+        _ => words(NONE, NONE, NONE, NONE),
     }
 }
 

@@ -52,7 +52,7 @@ pub(crate) fn number_at(line: &Line, start: usize, most: u64) -> Word {
 
 // The byte that two hex digits at a place say, or 256.
 fn pair(line: &Line, i: usize) -> u64
-    requires { ⌜ i < 270000 ⌝ }
+    requires { ⌜ i < 480000 ⌝ }
 {
     let high = digit(line[i]);
     let low = digit(line[i + 1]);

@@ -2,14 +2,14 @@
 use libc::STDIN_FILENO;
 
 // The longest line that is a call, and the room for one: two bytes stand behind it.
-pub(crate) const LINE: usize = 270000;
+pub(crate) const LINE: usize = 480000;
 
-pub(crate) type Line = [u8; 270002];
+pub(crate) type Line = [u8; 480002];
 
 const TOO_LONG: usize = usize::MAX;
 
 pub(crate) fn no_line() -> Line {
-    [0; 270002]
+    [0; 480002]
 }
 
 // How many bytes are read at a time, by io::large_buffer.

@@ -2,13 +2,19 @@
 use crate::print::mark;
 use crate::print::print;
 use crate::record::lay;
+use crate::words::CLASS;
+use crate::words::CONTEXTS;
 use crate::words::FIRST;
-use crate::words::FOURTH;
+use crate::words::INVOKED;
+use crate::words::PERFORMED;
+use crate::words::ROLES;
 use crate::words::SECOND;
 use crate::words::THIRD;
+use crate::words::VERSION_NAME;
 use crate::words::Words;
 use crate::words::byte;
 use crate::words::bytes;
+use crate::words::short;
 use association::Answer;
 use association::Assoc;
 
@@ -19,8 +25,33 @@ fn local(call: u8, a: Assoc, line: &[u8], w: &Words, gather: &[u8], out: &mut [u
     let third = bytes(line, w, THIRD);
     let one = byte(w, FIRST);
     match call {
-        b'c' => requests::confirm(a, first, second, third, bytes(line, w, FOURTH), gather, out),
-        b'a' => requests::accept(a, first, second, third, gather, out),
+        b'c' => requests::confirm(
+            a,
+            first,
+            second,
+            third,
+            bytes(line, w, CLASS),
+            bytes(line, w, VERSION_NAME),
+            short(w, INVOKED),
+            short(w, PERFORMED),
+            bytes(line, w, ROLES),
+            bytes(line, w, CONTEXTS),
+            gather,
+            out,
+        ),
+        b'a' => requests::accept(
+            a,
+            second,
+            third,
+            bytes(line, w, CLASS),
+            bytes(line, w, VERSION_NAME),
+            short(w, INVOKED),
+            short(w, PERFORMED),
+            bytes(line, w, ROLES),
+            bytes(line, w, CONTEXTS),
+            gather,
+            out,
+        ),
         b'j' => requests::reject(a, one, byte(w, SECOND), byte(w, THIRD), gather, out),
         b'd' => requests::send(a, first, gather, out),
         _ => requests::event(a, one, gather, out),

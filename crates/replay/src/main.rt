@@ -24,7 +24,7 @@ fn main() {
     let mut line = lines::no_line();
     let mut gather = buffer(IN_GATHER);
     let mut out = buffer(IN_OUTPUT);
-    let mut words = [0u64; 28];
+    let mut words = [0u64; 38];
     let mut kept = record::first();
     let mut taken = Taken {
         len: 0,

@@ -27,19 +27,26 @@ pub(crate) fn kind(line: &[u8], w: &Words) {
     );
 }
 
-fn fields(call: u8, pdu: &[u8], sheet: &mut [u8]) -> Associate {
+fn fields(call: u8, pdu: &[u8], sheet: &mut [u8], roles: &mut [u8]) -> Associate {
     if call == b'Q' {
-        reading::read_request(pdu, sheet)
+        reading::read_request(pdu, sheet, roles)
     } else {
-        reading::read_accept(pdu, sheet)
+        reading::read_accept(pdu, sheet, roles)
     }
 }
 
-// Q PDU SHEETLEN, A PDU SHEETLEN
+// Q PDU SHEETLEN ROLESLEN, A PDU SHEETLEN ROLESLEN
 pub(crate) fn associate(call: u8, line: &[u8], w: &Words) {
-    let n = number(w, LENT) as usize;
+    let n = number(w, SECOND) as usize;
+    let m = number(w, LENT) as usize;
     let mut sheet = [IN_SHEET; SHEET];
-    let f = fields(call, bytes(line, w, FIRST), front(&mut sheet, n));
+    let mut roles = [IN_SHEET; SHEET];
+    let f = fields(
+        call,
+        bytes(line, w, FIRST),
+        front(&mut sheet, n),
+        front(&mut roles, m),
+    );
     print(
         &[
             f.refusal as u64,
@@ -48,7 +55,15 @@ pub(crate) fn associate(call: u8, line: &[u8], w: &Words) {
             f.application_len as u64,
             f.maximum as u64,
             f.records as u64,
+            f.class_at as u64,
+            f.class_len as u64,
+            f.version_name_at as u64,
+            f.version_name_len as u64,
+            f.invoked as u64,
+            f.performed as u64,
+            f.roles as u64,
             digest(&sheet, n),
+            digest(&roles, m),
         ],
     );
 }

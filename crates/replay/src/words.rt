@@ -4,30 +4,33 @@ use crate::digits::number_at;
 use crate::lines::Line;
 ghost use Prim.Native.Nat.{_<_};
 
-// What a word may be, the numbers first: none; a mark, a byte, 32 bits, 64 bits, the length of a buffer, of a sheet; then a byte string, a sheet.
+// What a word may be, the numbers first: none; a mark, a byte, 16 bits, 32 bits, 64 bits, the length of a buffer, of a sheet; then a byte string, a sheet.
 pub(crate) const NONE: u8 = 0;
 
 pub(crate) const MARK: u8 = 1;
 
 pub(crate) const BYTE: u8 = 2;
 
-pub(crate) const LONG: u8 = 3;
+pub(crate) const SHORT: u8 = 3;
 
-pub(crate) const NUMBER: u8 = 4;
+pub(crate) const LONG: u8 = 4;
 
-pub(crate) const LENGTH: u8 = 5;
+pub(crate) const NUMBER: u8 = 5;
 
-pub(crate) const SHEET_LENGTH: u8 = 6;
+pub(crate) const LENGTH: u8 = 6;
 
-pub(crate) const BYTES: u8 = 7;
+pub(crate) const SHEET_LENGTH: u8 = 7;
 
-pub(crate) const SHEET: u8 = 8;
+pub(crate) const BYTES: u8 = 8;
+
+pub(crate) const SHEET: u8 = 9;
 
 // The most that a number may be, or the most bytes that a byte string may have.
 fn most(kind: u8) -> u64 {
     match kind {
         MARK => 1,
         BYTE => 255,
+        SHORT => 65535,
         LONG => 4294967295,
         LENGTH => 17000,
         SHEET_LENGTH => 66000,
@@ -37,7 +40,7 @@ fn most(kind: u8) -> u64 {
     }
 }
 
-// The places of a call's words: those of a RECORD, those of the call itself, and the length of the buffer that the call lends.
+// The places of a call's words: those of a RECORD, then those of the call itself.
 pub(crate) const STATE: usize = 0;
 
 pub(crate) const GATHERED: usize = 1;
@@ -62,14 +65,26 @@ pub(crate) const SECOND: usize = 10;
 
 pub(crate) const THIRD: usize = 11;
 
-pub(crate) const FOURTH: usize = 12;
+// Of an RQ or AC that is to be written: its user information and its sheet.
+pub(crate) const CLASS: usize = 12;
 
-pub(crate) const LENT: usize = 13;
+pub(crate) const VERSION_NAME: usize = 13;
 
-pub(crate) const PLACES: usize = 14;
+pub(crate) const INVOKED: usize = 14;
+
+pub(crate) const PERFORMED: usize = 15;
+
+pub(crate) const ROLES: usize = 16;
+
+pub(crate) const CONTEXTS: usize = 17;
+
+// The length of the buffer that the call lends.
+pub(crate) const LENT: usize = 18;
+
+pub(crate) const PLACES: usize = 19;
 
 // By place: the number, or how many bytes; then where in the line the bytes start. 0 where there is no word.
-pub(crate) type Words = [u64; 28];
+pub(crate) type Words = [u64; 38];
 
 // One word, and where it ends: BROKEN where it is not of its kind.
 pub(crate) struct Word {
@@ -88,7 +103,7 @@ pub(crate) struct Form {
 
 // Where the word behind the space at a place starts; BROKEN without one.
 fn start_of(line: &Line, at: usize) -> usize {
-    if 270000 < at {
+    if 480000 < at {
         return BROKEN;
     }
     if line[at] == b' ' { at + 1 } else { BROKEN }
@@ -113,8 +128,8 @@ fn word_at(line: &mut Line, at: usize, kind: u8) -> Word {
 const RECORD: [u8; 9] = [BYTE, NUMBER, MARK, MARK, MARK, LONG, LENGTH, BYTES, LENGTH];
 
 // The kind of the word at a place, by those of the call's own words.
-fn kind_at(k: usize, has_record: bool, own: [u8; 5]) -> u8
-    requires { ⌜ k < 14 ⌝ }
+fn kind_at(k: usize, has_record: bool, own: [u8; 10]) -> u8
+    requires { ⌜ k < 19 ⌝ }
 {
     if FIRST <= k {
         own[k - FIRST]
@@ -126,7 +141,7 @@ fn kind_at(k: usize, has_record: bool, own: [u8; 5]) -> u8
 }
 
 // Reads the words of a line as its form says, and answers where they end; BROKEN where one is not of its kind.
-pub(crate) fn words_by(line: &mut Line, f: Form, own: [u8; 5], words: &mut Words) -> usize {
+pub(crate) fn words_by(line: &mut Line, f: Form, own: [u8; 10], words: &mut Words) -> usize {
     let mut next = f.at;
     let mut k = 0;
     while k < PLACES {
@@ -141,29 +156,37 @@ pub(crate) fn words_by(line: &mut Line, f: Form, own: [u8; 5], words: &mut Words
 
 // Whether there is a word at a place.
 pub(crate) fn has(words: &Words, k: usize) -> bool
-    requires { ⌜ k < 14 ⌝ }
+    requires { ⌜ k < 19 ⌝ }
 {
     words[PLACES + k] != 0
 }
 
 // The number at a place.
 pub(crate) fn number(words: &Words, k: usize) -> u64
-    requires { ⌜ k < 14 ⌝ }
+    requires { ⌜ k < 19 ⌝ }
 {
     words[k]
 }
 
 // The byte at a place.
 pub(crate) fn byte(words: &Words, k: usize) -> u8
-    requires { ⌜ k < 14 ⌝ }
+    requires { ⌜ k < 19 ⌝ }
 {
     let n = words[k];
     if n < 256 { n as u8 } else { 0 }
 }
 
+// The number of 16 bits at a place.
+pub(crate) fn short(words: &Words, k: usize) -> u16
+    requires { ⌜ k < 19 ⌝ }
+{
+    let n = words[k];
+    if n < 65536 { n as u16 } else { 0 }
+}
+
 // The byte string at a place.
 pub(crate) fn bytes<'a>(line: &'a [u8], words: &Words, k: usize) -> &'a [u8]
-    requires { ⌜ k < 14 ⌝ }
+    requires { ⌜ k < 19 ⌝ }
 {
     let len = words[k] as usize;
     let start = words[PLACES + k] as usize;

@@ -4,15 +4,21 @@ use crate::buffers::buffer;
 use crate::buffers::digest;
 use crate::buffers::front;
 use crate::print::print;
+use crate::words::CLASS;
+use crate::words::CONTEXTS;
 use crate::words::FIRST;
-use crate::words::FOURTH;
+use crate::words::INVOKED;
 use crate::words::LENT;
+use crate::words::PERFORMED;
+use crate::words::ROLES;
 use crate::words::SECOND;
 use crate::words::THIRD;
+use crate::words::VERSION_NAME;
 use crate::words::Words;
 use crate::words::byte;
 use crate::words::bytes;
 use crate::words::number;
+use crate::words::short;
 use writing::Sent;
 
 // The peer's maximum length for `4`: none.
@@ -24,13 +30,23 @@ fn sent(call: u8, line: &[u8], w: &Words, out: &mut [u8]) -> Sent {
             bytes(line, w, FIRST),
             bytes(line, w, SECOND),
             bytes(line, w, THIRD),
-            bytes(line, w, FOURTH),
+            bytes(line, w, CLASS),
+            bytes(line, w, VERSION_NAME),
+            short(w, INVOKED),
+            short(w, PERFORMED),
+            bytes(line, w, ROLES),
+            bytes(line, w, CONTEXTS),
             out,
         ),
         b'2' => writing_associate::write_accept(
-            bytes(line, w, FIRST),
             bytes(line, w, SECOND),
             bytes(line, w, THIRD),
+            bytes(line, w, CLASS),
+            bytes(line, w, VERSION_NAME),
+            short(w, INVOKED),
+            short(w, PERFORMED),
+            bytes(line, w, ROLES),
+            bytes(line, w, CONTEXTS),
             out,
         ),
         b'3' => writing::write_reject(byte(w, FIRST), byte(w, SECOND), byte(w, THIRD), out),

@@ -3,9 +3,12 @@
 use crate::contents::{AcContents, RqContents};
 use crate::fields::sheet_record;
 use crate::generate::{ac_words, hex, rq_words, Generator};
+use crate::given::some_given;
 use crate::make::name_of_length;
 use crate::pdus::set_length;
 use crate::random::Random;
+use crate::subitems::version_name_of;
+use crate::user::Given;
 use crate::write;
 
 impl Generator {
@@ -19,7 +22,7 @@ impl Generator {
         let bytes = rq_of_records(records);
         let room = self.random.pick(&[132 * records, 132 * records - 1, 66_000]).min(66_000);
         self.mark("large: sheet of about 500 records");
-        self.say(format!("Q {} {}", hex(&bytes), room));
+        self.say(format!("Q {} {} 0", hex(&bytes), room));
     }
 
     /// An AC with a context for each of the 128 IDs, and one with a context more.
@@ -28,7 +31,7 @@ impl Generator {
         let over = self.random.below(2);
         let bytes = ac_of_contexts(&all_ids(over));
         let room = self.random.pick(&[128 * 132, 128 * 132 - 1, 20_000]);
-        self.say(format!("A {} {}", hex(&bytes), room));
+        self.say(format!("A {} {} 0", hex(&bytes), room));
     }
 
     /// PDUs of 16,384 whose gathered bytes are mostly the buffer's own filler.
@@ -96,7 +99,7 @@ impl Generator {
         let rubbish = self.random.bytes(16_390 + over - bytes.len() - USER.len());
         bytes.extend(rubbish);
         bytes.extend_from_slice(&USER);
-        self.say(format!("A {} 132", hex(&bytes)));
+        self.say(format!("A {} 132 0", hex(&bytes)));
     }
 
     /// Calls that carry 16,384 and more bytes themselves.
@@ -123,7 +126,7 @@ impl Generator {
     pub fn full_reading(&mut self, call: &str, name: &str, over: usize) {
         self.mark(name);
         let (mut bytes, words) = match call {
-            "Q" => (self.filled_associate(1), " 528"),
+            "Q" => (self.filled_associate(1), " 1320 1360"),
             "D" => (vec![4, 0, 0, 0, 0x40, 0, 0, 0, 0x3f, 0xfc, 1, 2], " 0"),
             "P" => (vec![4, 0, 0, 0, 0x40, 0, 0, 0, 0x3f, 0xfc, 1, 2], " 6"),
             _ => (self.filled_associate(2), ""),
@@ -178,8 +181,9 @@ impl Generator {
         let transfer = |id: u8| if id % 5 == 0 || (id == 1 && named) { &b"1.2"[..] } else { b"" };
         let ids = all_ids(over);
         let records: Vec<Vec<u8>> = ids.iter().map(|id| sheet_record(*id, id % 5, b"", transfer(*id))).collect();
-        let contents = AcContents { echoed: vec![9; 64], application: b"1.2".to_vec(), sheet: records.concat() };
-        let needed = write::ac(&contents.echoed, &contents.application, &contents.sheet).map_or(20, |b| b.len());
+        let user = some_given(true, &mut self.random, &mut self.marks);
+        let contents = AcContents { echoed: vec![9; 64], application: b"1.2".to_vec(), user, sheet: records.concat() };
+        let needed = contents.written().map_or(20, |b| b.len());
         let room = self.random.pick(&[needed, needed - 1]);
         if self.random.chance(50) {
             self.say(format!("2 {} {}", ac_words(&contents), room));
@@ -212,7 +216,8 @@ fn rq_of_records(records: usize) -> Vec<u8> {
     for _ in 0..records {
         sheet.extend(sheet_record(1, 0, b"1", b"2"));
     }
-    write::rq(b"STORE-EQUINE    ", b"STORE-EXOTIC    ", b"1.2", &sheet).unwrap_or_default()
+    let user = Given::class_alone(b"1.2");
+    write::rq(b"STORE-EQUINE    ", b"STORE-EXOTIC    ", b"1.2", &user, &sheet).unwrap_or_default()
 }
 
 /// All odd IDs, the highest first, and with `over` the highest once more.
@@ -280,19 +285,22 @@ fn one_longer(bytes: &mut Vec<u8>, call: &str) {
     set_length(bytes);
 }
 
-/// 113 runs that make the PDU-length 16,384, and one more with `over`.
+/// 113 runs that make the PDU-length 16,384 with a class UID and a version name, and one more with `over`.
 fn long_rq_contents(over: usize, random: &mut Random) -> RqContents {
     let mut sheet = Vec::new();
     for number in 0..112u8 {
         let (one, other) = (name_of_length(64, random), name_of_length(64, random));
         sheet.extend(sheet_record(2 * number + 1, 0, &one, &other));
     }
-    let (one, other) = (name_of_length(46, random), name_of_length(46 + over, random));
+    let (one, other) = (name_of_length(34, random), name_of_length(34 + over, random));
     sheet.extend(sheet_record(225, 0, &one, &other));
+    let mut user = Given::class_alone(&name_of_length(10, random));
+    user.version_name = version_name_of(6, random);
     RqContents {
         called: b"STORE-EQUINE    ".to_vec(),
         calling: b"STORE-EXOTIC    ".to_vec(),
         application: name_of_length(64, random),
+        user,
         sheet,
     }
 }

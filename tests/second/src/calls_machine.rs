@@ -118,11 +118,11 @@ impl Generator {
         match event {
             2 => {
                 let c = self.some_rq_contents();
-                ("c", rq_words(&c), write::rq(&c.called, &c.calling, &c.application, &c.sheet))
+                ("c", rq_words(&c), c.written())
             }
             7 => {
                 let c = self.some_ac_contents();
-                ("a", ac_words(&c), write::ac(&c.echoed, &c.application, &c.sheet))
+                ("a", ac_words(&c), c.written())
             }
             8 => {
                 let (result, source, reason) = self.next_reject();

@@ -4,7 +4,6 @@ use crate::contents::{bad_ac_contents, good_ac_contents, good_sheet, AcContents,
 use crate::generate::{ac_words, hex, Generator};
 use crate::pdus::{faulty, is_framed};
 use crate::refused::{plan_with_refused, BEHIND};
-use crate::write;
 
 /// What stands behind refused contexts is counted by the call of a valid AC, and for invalid ones together.
 const WORDS: [&str; 4] = ["A takes", "r takes", "K takes", "not taken"];
@@ -31,13 +30,13 @@ impl Generator {
 
     /// Mostly with room enough.
     fn read_refused(&mut self, bytes: &[u8]) {
-        let needed = self.ac_room(bytes);
+        let (needed, roles) = self.needed_rooms(bytes);
         let room = match self.random.below(6) {
             0 => self.sheet_room(needed),
             1 => needed + self.random.pick(&[1, 131, 132, 200]),
             _ => needed,
         };
-        self.say(format!("A {} {}", hex(bytes), room));
+        self.say(format!("A {} {} {}", hex(bytes), room, roles));
     }
 
     /// Mostly in Sta5; in other states a valid AC and an invalid one are told apart by the ABORT that is sent.
@@ -74,8 +73,7 @@ impl Generator {
 
     /// An answer by the call 2, or by a in Sta3, mostly with room enough.
     pub fn send_answer(&mut self, call: &str, contents: &AcContents) {
-        let written = write::ac(&contents.echoed, &contents.application, &contents.sheet);
-        let needed = written.map_or(140, |bytes| bytes.len());
+        let needed = contents.written().map_or(147, |bytes| bytes.len());
         let room = if self.random.chance(60) { needed } else { self.room(needed) };
         if call == "2" {
             self.say(format!("2 {} {}", ac_words(contents), room));

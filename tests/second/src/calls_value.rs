@@ -1,7 +1,7 @@
 //! Reading and writing calls for the generator, with lent sheets and outputs of every size.
 
 use crate::contents::title_of_other_length;
-use crate::fields::{pdv_at, read_ac, read_rq};
+use crate::fields::{pdv_at, rooms};
 use crate::generate::{ac_words, hex, rq_words, Generator};
 use crate::make::{bad_name, bad_title, good_data, good_name, good_pdv, good_title, name_of_length, DataPlan, PdvPlan};
 use crate::pdus::some_pdu;
@@ -21,21 +21,26 @@ impl Generator {
 
     pub fn call_q(&mut self) {
         let bytes = self.pdu_mostly(1);
-        let needed = read_rq(&bytes, &vec![0; 66_000]).map_or(132, |(fields, _)| 132 * fields.records);
-        let room = self.sheet_room(needed);
-        self.say(format!("Q {} {}", hex(&bytes), room));
+        self.say_reading("Q", &bytes);
     }
 
     pub fn call_a(&mut self) {
         let bytes = self.pdu_mostly(2);
-        let needed = self.ac_room(&bytes);
-        let room = self.sheet_room(needed);
-        self.say(format!("A {} {}", hex(&bytes), room));
+        self.say_reading("A", &bytes);
     }
 
-    /// The bytes of an AC's sheet, or of one record.
-    pub fn ac_room(&self, bytes: &[u8]) -> usize {
-        read_ac(bytes, &vec![0; 66_000]).map_or(132, |(fields, _)| 132 * fields.records)
+    /// A context sheet of any size, a role sheet mostly long enough.
+    fn say_reading(&mut self, call: &str, bytes: &[u8]) {
+        let (needed, roles) = self.needed_rooms(bytes);
+        let room = self.sheet_room(needed);
+        let short = [roles.saturating_sub(1), roles.saturating_sub(68), 0];
+        let roles = if self.random.chance(15) { self.random.pick(&short) } else { roles };
+        self.say(format!("{} {} {} {}", call, hex(bytes), room, roles));
+    }
+
+    /// The bytes of an RQ's or AC's sheets, or of a record in each.
+    pub fn needed_rooms(&self, bytes: &[u8]) -> (usize, usize) {
+        rooms(bytes).unwrap_or((132, 68))
     }
 
     /// A PDU of the kind asked for, seldom of another.
@@ -251,14 +256,14 @@ impl Generator {
 
     pub fn write_rq(&mut self) {
         let c = self.some_rq_contents();
-        let needed = write::rq(&c.called, &c.calling, &c.application, &c.sheet).map_or(161, |bytes| bytes.len());
+        let needed = c.written().map_or(168, |bytes| bytes.len());
         let room = self.room(needed);
         self.say(format!("1 {} {}", rq_words(&c), room));
     }
 
     pub fn write_ac(&mut self) {
         let c = self.some_ac_contents();
-        let needed = write::ac(&c.echoed, &c.application, &c.sheet).map_or(140, |bytes| bytes.len());
+        let needed = c.written().map_or(147, |bytes| bytes.len());
         let room = self.room(needed);
         self.say(format!("2 {} {}", ac_words(&c), room));
     }

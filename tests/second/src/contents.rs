@@ -1,11 +1,14 @@
 //! Contents of local requests for the generator: sheets, titles and names, good and twisted.
 
 use crate::fields::sheet_record;
+use crate::given::some_given;
 use crate::make::{bad_name, bad_title, good_name, good_title, name_of_length};
 use crate::marks::Marks;
 use crate::random::Random;
 use crate::twists::Expect::{Inside, Outside};
 use crate::twists::{inside, outside, seldom_used, Expect, Twist};
+use crate::user::Given;
+use crate::write;
 
 /// A sheet in records, with bytes behind them.
 #[derive(Clone, Debug, Default)]
@@ -454,7 +457,14 @@ pub struct RqContents {
     pub called: Vec<u8>,
     pub calling: Vec<u8>,
     pub application: Vec<u8>,
+    pub user: Given,
     pub sheet: Vec<u8>,
+}
+
+impl RqContents {
+    pub fn written(&self) -> Result<Vec<u8>, u8> {
+        write::rq(&self.called, &self.calling, &self.application, &self.user, &self.sheet)
+    }
 }
 
 /// What comes with an accept response.
@@ -462,7 +472,14 @@ pub struct RqContents {
 pub struct AcContents {
     pub echoed: Vec<u8>,
     pub application: Vec<u8>,
+    pub user: Given,
     pub sheet: Vec<u8>,
+}
+
+impl AcContents {
+    pub fn written(&self) -> Result<Vec<u8>, u8> {
+        write::ac(&self.echoed, &self.application, &self.user, &self.sheet)
+    }
 }
 
 /// A title of another length than 16.
@@ -476,6 +493,7 @@ pub fn good_rq_contents(random: &mut Random, marks: &mut Marks) -> RqContents {
         called: good_title(random),
         calling: good_title(random),
         application: good_name(random),
+        user: some_given(true, random, marks),
         sheet: some_sheet(true, true, random, marks),
     }
 }
@@ -483,7 +501,7 @@ pub fn good_rq_contents(random: &mut Random, marks: &mut Marks) -> RqContents {
 /// RQ fields with one bad part.
 pub fn bad_rq_contents(random: &mut Random, marks: &mut Marks) -> RqContents {
     let mut contents = good_rq_contents(random, marks);
-    let name = match random.below(12) {
+    let name = match random.below(15) {
         0 => {
             contents.called = bad_title(random);
             "contents: bad called title"
@@ -504,6 +522,10 @@ pub fn bad_rq_contents(random: &mut Random, marks: &mut Marks) -> RqContents {
             contents.application = bad_name(random);
             "contents: bad application name"
         }
+        5..=7 => {
+            contents.user = some_given(false, random, marks);
+            "contents: bad user information"
+        }
         _ => {
             contents.sheet = some_sheet(true, false, random, marks);
             "contents: bad proposal"
@@ -517,6 +539,7 @@ pub fn good_ac_contents(random: &mut Random, marks: &mut Marks) -> AcContents {
     AcContents {
         echoed: random.bytes(64),
         application: good_name(random),
+        user: some_given(true, random, marks),
         sheet: some_sheet(false, true, random, marks),
     }
 }
@@ -524,7 +547,7 @@ pub fn good_ac_contents(random: &mut Random, marks: &mut Marks) -> AcContents {
 /// AC fields with one bad part.
 pub fn bad_ac_contents(random: &mut Random, marks: &mut Marks) -> AcContents {
     let mut contents = good_ac_contents(random, marks);
-    let name = match random.below(6) {
+    let name = match random.below(8) {
         0 | 1 => {
             let length = random.pick(&[0, 1, 63, 63, 65, 65, 128]);
             contents.echoed = random.bytes(length);
@@ -533,6 +556,10 @@ pub fn bad_ac_contents(random: &mut Random, marks: &mut Marks) -> AcContents {
         2 => {
             contents.application = bad_name(random);
             "contents: bad application name of an AC"
+        }
+        3 | 4 => {
+            contents.user = some_given(false, random, marks);
+            "contents: bad user information of an AC"
         }
         _ => {
             contents.sheet = some_sheet(false, false, random, marks);

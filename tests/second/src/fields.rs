@@ -1,7 +1,9 @@
 //! Reading calls: the fields of a whole valid PDU of the kind asked for; and a PDV item by its place, which asks for no valid PDU.
 
-use crate::items::Pdv;
+use crate::items::{Item, Pdv};
+use crate::user::role_record;
 use crate::valid::{judge, Associate, Context, Pdu};
+use crate::write::into_output;
 
 /// Bytes of one record of the context sheet.
 pub const RECORD: usize = 132;
@@ -14,7 +16,7 @@ pub struct Kind {
     pub maximum: u32,
 }
 
-/// The fields of an RQ or AC beside its sheet; all zero when refused.
+/// The fields of an RQ or AC beside its sheets; all zero when refused.
 #[derive(Clone, Copy, Debug, Default, PartialEq)]
 pub struct Fields {
     pub version: u16,
@@ -22,7 +24,17 @@ pub struct Fields {
     pub application_length: usize,
     pub maximum: u32,
     pub records: usize,
+    pub class_at: usize,
+    pub class_length: usize,
+    pub version_name_at: usize,
+    pub version_name_length: usize,
+    pub invoked: u16,
+    pub performed: u16,
+    pub roles: usize,
 }
+
+/// The fields of an RQ or AC, then its context sheet and its role sheet as they are afterwards.
+pub type Filled = (Fields, Vec<u8>, Vec<u8>);
 
 /// A PDV as read: its ID, control byte, and the fragment's part of the PDU, with its bytes.
 #[derive(Clone, Copy, Debug, Default, PartialEq)]
@@ -37,43 +49,71 @@ pub struct Part<'a> {
 pub fn kind(bytes: &[u8]) -> Kind {
     match judge(bytes) {
         Err(_) => Kind::default(),
-        Ok(Pdu::Rq(rq)) => Kind { kind: 1, acceptable: rq.has_version_bit(), maximum: rq.maximum },
-        Ok(Pdu::Ac(ac)) => Kind { kind: 2, acceptable: false, maximum: ac.maximum },
+        Ok(Pdu::Rq(rq)) => Kind { kind: 1, acceptable: rq.has_version_bit(), maximum: rq.user.maximum },
+        Ok(Pdu::Ac(ac)) => Kind { kind: 2, acceptable: false, maximum: ac.user.maximum },
         Ok(pdu) => Kind { kind: pdu.kind(), acceptable: false, maximum: 0 },
     }
 }
 
-/// Reads an RQ; answers its fields and the sheet as it is afterwards.
-pub fn read_rq(bytes: &[u8], sheet: &[u8]) -> Result<(Fields, Vec<u8>), u8> {
+/// Reads an RQ into lent sheets.
+pub fn read_rq(bytes: &[u8], sheet: &[u8], roles: &[u8]) -> Result<Filled, u8> {
     match judge(bytes) {
-        Ok(Pdu::Rq(rq)) => fill(&rq, sheet),
+        Ok(Pdu::Rq(rq)) => fill(&rq, sheet, roles),
         _ => Err(7),
     }
 }
 
-/// Reads an AC; answers its fields and the sheet as it is afterwards.
-pub fn read_ac(bytes: &[u8], sheet: &[u8]) -> Result<(Fields, Vec<u8>), u8> {
+/// Reads an AC into lent sheets.
+pub fn read_ac(bytes: &[u8], sheet: &[u8], roles: &[u8]) -> Result<Filled, u8> {
     match judge(bytes) {
-        Ok(Pdu::Ac(ac)) => fill(&ac, sheet),
+        Ok(Pdu::Ac(ac)) => fill(&ac, sheet, roles),
         _ => Err(7),
     }
 }
 
-fn fill(read: &Associate, sheet: &[u8]) -> Result<(Fields, Vec<u8>), u8> {
-    let filled: Vec<u8> = read.contexts.iter().flat_map(records).collect();
-    if sheet.len() < filled.len() {
-        return Err(2);
-    }
-    let mut after = filled.clone();
-    after.extend_from_slice(&sheet[filled.len()..]);
+/// 2 where either sheet is too short.
+fn fill(read: &Associate, sheet: &[u8], roles: &[u8]) -> Result<Filled, u8> {
+    let (filled, filled_roles) = sheets(read);
+    let (after, roles_after) = (into_output(&filled, sheet)?, into_output(&filled_roles, roles)?);
+    let (invoked, performed) = read.user.operations();
+    let (class_at, class_length) = part_of_pdu(&read.user.class);
+    let (version_name_at, version_name_length) = part_of_pdu(&read.user.version_name);
     let fields = Fields {
         version: read.version,
         application_at: read.application_at,
         application_length: read.application.len(),
-        maximum: read.maximum,
+        maximum: read.user.maximum,
         records: filled.len() / RECORD,
+        class_at,
+        class_length,
+        version_name_at,
+        version_name_length,
+        invoked,
+        performed,
+        roles: read.user.roles.len(),
     };
-    Ok((fields, after))
+    Ok((fields, after, roles_after))
+}
+
+/// The records that an RQ or AC puts into its two sheets.
+fn sheets(read: &Associate) -> (Vec<u8>, Vec<u8>) {
+    (read.contexts.iter().flat_map(records).collect(), read.user.roles.iter().flat_map(role_record).collect())
+}
+
+/// The room that an RQ or AC needs in its two sheets; None where it is invalid.
+pub fn rooms(bytes: &[u8]) -> Option<(usize, usize)> {
+    match judge(bytes) {
+        Ok(Pdu::Rq(read)) | Ok(Pdu::Ac(read)) => {
+            let (sheet, roles) = sheets(&read);
+            Some((sheet.len(), roles.len()))
+        }
+        _ => None,
+    }
+}
+
+/// Where a sub-item's body stands in the PDU and how long it is, 0 and 0 where there is none.
+fn part_of_pdu(found: &Option<Item>) -> (usize, usize) {
+    found.as_ref().map_or((0, 0), |sub_item| (sub_item.at, sub_item.body.len()))
 }
 
 /// The records of one context, one per transfer name.

@@ -2,7 +2,9 @@
 
 use std::collections::VecDeque;
 
+use crate::calls_roles::role_turns;
 use crate::calls_titles::title_turns;
+use crate::calls_user::{given_turns, room_turns, user_turns};
 use crate::contents::{AcContents, RqContents};
 use crate::machine::cell;
 use crate::make::{some_maximum, some_reject};
@@ -10,6 +12,7 @@ use crate::marks::Marks;
 use crate::pdus::{is_framed, some_pdu};
 use crate::random::Random;
 use crate::replay::{Last, Replay};
+use crate::user::Given;
 
 /// A generated call with its answer and what is counted of it.
 pub struct Call {
@@ -56,7 +59,7 @@ pub fn hex(bytes: &[u8]) -> String {
         return "-".to_string();
     }
     let digits = b"0123456789abcdef";
-    bytes.iter().flat_map(|b| vec![digits[(b >> 4) as usize] as char, digits[(b & 15) as usize] as char]).collect()
+    bytes.iter().flat_map(|b| [digits[(b >> 4) as usize] as char, digits[(b & 15) as usize] as char]).collect()
 }
 
 /// A branch of the generator: its name, about how often it comes in 5,000 calls, and what it does.
@@ -67,7 +70,7 @@ pub struct Branch {
 }
 
 pub static BRANCHES: &[Branch] = &[
-    Branch { name: "script", weight: 155, run: Generator::script },
+    Branch { name: "script", weight: 128, run: Generator::script },
     Branch { name: "local event by number", weight: 320, run: Generator::event_sweep },
     Branch { name: "PDU received in a state", weight: 190, run: Generator::received_sweep },
     Branch { name: "local event with contents", weight: 230, run: Generator::contents_call },
@@ -97,6 +100,10 @@ pub static BRANCHES: &[Branch] = &[
     Branch { name: "many records", weight: 4, run: Generator::many_records },
     Branch { name: "AC with refused contexts", weight: 240, run: Generator::refused_contexts },
     Branch { name: "answer with refused records", weight: 130, run: Generator::refused_records },
+    Branch { name: "user information", weight: 290, run: Generator::user_information },
+    Branch { name: "two sheets", weight: 36, run: Generator::two_sheets },
+    Branch { name: "user information to be sent", weight: 168, run: Generator::user_to_be_sent },
+    Branch { name: "many roles", weight: 24, run: Generator::many_roles },
     Branch { name: "limit of 16,384 in few words", weight: 36, run: Generator::limit_in_few_words },
     Branch { name: "limit of 16,384 in full", weight: 20, run: Generator::limit_in_full },
     Branch { name: "bad form", weight: 26, run: Generator::bad_form },
@@ -146,6 +153,10 @@ pub struct Generator {
     pub items: Turns,
     pub long_choices: Turns,
     pub titles: Turns,
+    pub users: Turns,
+    pub givens: Turns,
+    pub two_rooms: Turns,
+    pub role_counts: Turns,
     pub calls: VecDeque<Call>,
 }
 
@@ -165,8 +176,8 @@ impl Generator {
         let edges: Vec<u8> = (0..=15).collect();
         let items = Turns::new(pairs(&edges, &[0, 1]), &mut random);
         let long_choices = Turns::new(pairs(&[0, 1, 2], &[0, 1]), &mut random);
-        // In an order of its own, which takes no number from the other branches.
-        let titles = Turns::new(title_turns(), &mut Random::new(seed));
+        // In an order of their own, which takes no number from the other branches.
+        let own_order = |list: Vec<(u8, u8)>| Turns::new(list, &mut Random::new(seed));
         let mut generator = Generator {
             random,
             marks: Marks::default(),
@@ -180,7 +191,11 @@ impl Generator {
             aborts,
             items,
             long_choices,
-            titles,
+            titles: own_order(title_turns()),
+            users: own_order(user_turns()),
+            givens: own_order(given_turns()),
+            two_rooms: own_order(room_turns()),
+            role_counts: own_order(role_turns()),
             calls: VecDeque::new(),
         };
         generator.first_calls();
@@ -306,9 +321,16 @@ impl Generator {
 }
 
 pub fn rq_words(c: &RqContents) -> String {
-    format!("{} {} {} {}", hex(&c.called), hex(&c.calling), hex(&c.application), hex(&c.sheet))
+    let titles = format!("{} {}", hex(&c.called), hex(&c.calling));
+    format!("{} {} {} {}", titles, hex(&c.application), user_words(&c.user), hex(&c.sheet))
 }
 
 pub fn ac_words(c: &AcContents) -> String {
-    format!("{} {} {}", hex(&c.echoed), hex(&c.application), hex(&c.sheet))
+    format!("{} {} {} {}", hex(&c.echoed), hex(&c.application), user_words(&c.user), hex(&c.sheet))
+}
+
+/// CLASS VERSION_NAME INVOKED PERFORMED ROLES.
+pub fn user_words(user: &Given) -> String {
+    let names = format!("{} {}", hex(&user.class), hex(&user.version_name));
+    format!("{} {} {} {}", names, user.invoked, user.performed, hex(&user.roles))
 }

@@ -1,6 +1,7 @@
 //! The judge command: one direction of a recorded association, framed and read for people.
 
 use crate::items::four_bytes;
+use crate::user::User;
 use crate::valid::{judge, Associate, Pdu, LIMIT};
 
 const KINDS: [&str; 7] = ["RQ", "AC", "RJ", "P-DATA-TF", "RELEASE-RQ", "RELEASE-RP", "ABORT"];
@@ -58,13 +59,23 @@ fn fields(pdu: &Pdu) -> String {
 
 fn associate(read: &Associate) -> String {
     format!(
-        " version {} called \"{}\" calling \"{}\" application {} maximum {}",
+        " version {} called \"{}\" calling \"{}\" application {} maximum {}{}",
         read.version,
         text(read.called),
         text(read.calling),
         text(read.application),
-        read.maximum
+        read.user.maximum,
+        user(&read.user)
     )
+}
+
+/// What a 50H says beside the maximum length.
+fn user(read: &User) -> String {
+    let class = read.class.as_ref().map(|found| format!(" class {}", text(found.body)));
+    let counts = read.counts.map(|(invoked, performed)| format!(" invoked {} performed {}", invoked, performed));
+    let roles = read.roles.iter().map(|role| format!(" role {} {} {}", text(role.uid), role.scu, role.scp));
+    let version_name = read.version_name.as_ref().map(|found| format!(" version name \"{}\"", text(found.body)));
+    class.into_iter().chain(counts).chain(roles).chain(version_name).collect()
 }
 
 fn proposed(read: &Associate) -> String {

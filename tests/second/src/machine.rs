@@ -1,6 +1,7 @@
 //! The machine: Table 9-10, the association record, refusals, receiving and local events.
 
 use crate::items::four_bytes;
+use crate::user::Given;
 use crate::valid::{judge, Pdu, LIMIT};
 use crate::write;
 
@@ -102,8 +103,8 @@ pub struct Answer {
 #[derive(Clone, Debug)]
 pub enum Request<'a> {
     Number(u8),
-    Confirmation { called: &'a [u8], calling: &'a [u8], application: &'a [u8], sheet: &'a [u8] },
-    Accept { echoed: &'a [u8], application: &'a [u8], sheet: &'a [u8] },
+    Confirmation { called: &'a [u8], calling: &'a [u8], application: &'a [u8], user: &'a Given, sheet: &'a [u8] },
+    Accept { echoed: &'a [u8], application: &'a [u8], user: &'a Given, sheet: &'a [u8] },
     Reject { result: u8, source: u8, reason: u8 },
     Data { items: &'a [u8] },
 }
@@ -216,7 +217,7 @@ fn event_of(gathered: &[u8]) -> Option<Seen> {
         seen.event = RECEIVED[pdu.kind() as usize - 1];
         if let Pdu::Rq(read) | Pdu::Ac(read) = &pdu {
             seen.acceptable = read.has_version_bit();
-            seen.maximum = read.maximum;
+            seen.maximum = read.user.maximum;
         }
     }
     Some(seen)
@@ -337,8 +338,10 @@ fn sent_on_local(action: &str, request: &Request, lent: &Lent) -> Result<(usize,
 
 fn contents(action: &str, request: &Request, peer_maximum: u32) -> Result<Vec<u8>, u8> {
     match *request {
-        Request::Confirmation { called, calling, application, sheet } => write::rq(called, calling, application, sheet),
-        Request::Accept { echoed, application, sheet } => write::ac(echoed, application, sheet),
+        Request::Confirmation { called, calling, application, user, sheet } => {
+            write::rq(called, calling, application, user, sheet)
+        }
+        Request::Accept { echoed, application, user, sheet } => write::ac(echoed, application, user, sheet),
         Request::Reject { result, source, reason } => write::rj(result, source, reason),
         Request::Data { items } => write::data(items, peer_maximum),
         Request::Number(2) | Request::Number(7) | Request::Number(8) | Request::Number(9) => Err(4),

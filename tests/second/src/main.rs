@@ -1,17 +1,20 @@
-//! The second program: document 01 and requests E1 to E3 by value, for comparison with the proved one.
+//! The second program: document 01 and requests E1 to E4 by value, for comparison with the proved one.
 
 mod calls_bad;
 mod calls_choose;
 mod calls_large;
 mod calls_machine;
 mod calls_refused;
+mod calls_roles;
 mod calls_titles;
+mod calls_user;
 mod calls_value;
 mod choose;
 mod contents;
 mod coverage;
 mod fields;
 mod generate;
+mod given;
 mod items;
 mod judge;
 mod machine;
@@ -23,6 +26,7 @@ mod random;
 mod refused;
 mod replay;
 mod script;
+mod subitems;
 #[cfg(test)]
 mod tests;
 #[cfg(test)]
@@ -31,7 +35,10 @@ mod tests_choose;
 mod tests_refused;
 #[cfg(test)]
 mod tests_titles;
+#[cfg(test)]
+mod tests_user;
 mod twists;
+mod user;
 mod valid;
 mod write;
 
@@ -39,7 +46,7 @@ use std::fs::File;
 use std::io::{self, BufRead, BufWriter, Read, Write};
 use std::process::exit;
 
-const HELP: &str = "second: document 01 and requests E1 to E3 written a second time, by value
+const HELP: &str = "second: document 01 and requests E1 to E4 written a second time, by value
 
 second answer                                  answers the call lines of standard input
 second generate SEED COUNT                     prints COUNT call lines

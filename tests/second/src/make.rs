@@ -2,6 +2,7 @@
 
 use crate::random::Random;
 use crate::refused::{accepted_context, refused_context};
+use crate::subitems::good_sub_items;
 
 /// An item; its length field is the body's length plus a slip.
 #[derive(Clone, Debug)]
@@ -257,7 +258,7 @@ pub fn known_inside(kind: u8) -> &'static [u8] {
     match kind {
         0x20 => &[0x30, 0x40],
         0x21 => &[0x40],
-        _ => &[0x51],
+        _ => &[0x51, 0x52, 0x53, 0x54, 0x55],
     }
 }
 
@@ -424,7 +425,7 @@ pub fn good_plan(kind: u8, random: &mut Random) -> Plan {
     fixed.extend(good_title(random));
     fixed.extend(vec![0; 32]);
     let application = good_name(random);
-    let user = Node::holder(0x50, &[], vec![Node::leaf(0x51, &some_maximum(random).to_be_bytes())]);
+    let user = Node::holder(0x50, &[], good_sub_items(random));
     let items = vec![Node::leaf(0x10, &application), user];
     let mut plan = Plan { kind, reserved: 0, fixed, items, tail: Vec::new(), slip: 0 };
     let context_kind = plan.context_kind();

@@ -1,4 +1,4 @@
-//! Names and titles: a name, an RQ title, equal titles, and the place of a sought title among our own.
+//! Names and titles: a name, an RQ title, a version name, equal titles, and the place of a sought title among our own.
 
 /// A name is 1 to 64 bytes of digits and dots, made of good components.
 pub fn name_is_valid(name: &[u8]) -> bool {
@@ -18,6 +18,11 @@ pub fn title_is_valid(title: &[u8]) -> bool {
 
 fn title_byte_is_valid(byte: u8) -> bool {
     (0x20..=0x7e).contains(&byte) && byte != 0x5c
+}
+
+/// A version name: 1 to 16 title characters, all spaces too.
+pub fn version_name_is_valid(name: &[u8]) -> bool {
+    (1..=16).contains(&name.len()) && name.iter().all(|b| title_byte_is_valid(*b))
 }
 
 /// A title without its leading and trailing spaces.

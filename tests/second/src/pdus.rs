@@ -5,16 +5,24 @@ use crate::make::{framed_with_slip, good_data, good_plan, good_short, Plan, Shor
 use crate::marks::Marks;
 use crate::random::Random;
 use crate::refused::FAULTS;
+use crate::subitems::{Inner, SUB_ITEMS};
 use crate::twists::Expect::{Either, Inside, Outside};
 use crate::twists::{seldom_used, Expect, Twist, ABORT, AC, BOTH, CONTROL_BITS, DATA, RJ, RQ, SHORT};
 use crate::valid::judge;
 
 /// Applies one twist, of the wanted expectation if one is given, and marks its name.
 fn twist<P>(plan: &mut P, lists: &[&[Twist<P>]], want: Option<Expect>, random: &mut Random, marks: &mut Marks) {
-    let fitting: Vec<&Twist<P>> =
-        lists.iter().flat_map(|list| list.iter()).filter(|t| want.is_none() || want == Some(t.expect)).collect();
+    let fitting: Vec<&Twist<P>> = lists.iter().flat_map(|list| list.iter()).filter(|t| t.fits(want)).collect();
     if let Some(chosen) = seldom_used(&fitting, "twist", random, marks) {
         (chosen.edit)(plan, random);
+    }
+}
+
+/// The same in a plan's 50H, counted with the calls that are about it.
+fn twist_user(plan: &mut Plan, want: Option<Expect>, random: &mut Random, marks: &mut Marks) {
+    let fitting: Vec<&Twist<Inner>> = SUB_ITEMS.iter().filter(|t| t.fits(want)).collect();
+    if let Some(chosen) = seldom_used(&fitting, "user", random, marks) {
+        plan.with_item(0x50, |user| (chosen.edit)(&mut user.inner, random));
     }
 }
 
@@ -25,7 +33,11 @@ fn twisted(kind: u8, wants: &[Option<Expect>], random: &mut Random, marks: &mut 
             let mut plan = good_plan(kind, random);
             let lists: &[&[Twist<Plan>]] = if kind == 1 { &[BOTH, RQ] } else { &[BOTH, AC, FAULTS] };
             for want in wants {
-                twist(&mut plan, lists, *want, random, marks);
+                if random.chance(25) {
+                    twist_user(&mut plan, *want, random, marks);
+                } else {
+                    twist(&mut plan, lists, *want, random, marks);
+                }
             }
             plan.bytes()
         }

@@ -5,12 +5,15 @@ use crate::fields::{kind, pdv_at, read_abort, read_ac, read_pdv, read_rj, read_r
 use crate::generate::hex;
 use crate::machine::{local_event, receive, Answer, Lent, Record, Request};
 use crate::names::{name_is_valid, title_is_valid, title_place, titles_equal};
+use crate::user::Given;
 use crate::write;
 
 /// The longest byte string, and the longest gather buffer or output.
 pub const STRING_LIMIT: u64 = 17_000;
-/// The longest sheet.
+/// The longest sheet, of contexts or of roles.
 pub const SHEET_LIMIT: u64 = 66_000;
+/// The longest line, without its newline.
+pub const LINE_LIMIT: usize = 480_000;
 
 /// What the last call was and did, for counting.
 #[derive(Clone, Copy, Debug, Default)]
@@ -67,6 +70,11 @@ impl<'a> Words<'a> {
         self.number(255).map(|n| n as u8)
     }
 
+    /// A count of operations.
+    fn count(&mut self) -> Option<u16> {
+        self.number(u16::MAX as u64).map(|n| n as u16)
+    }
+
     fn mark(&mut self) -> Option<bool> {
         self.number(1).map(|n| n == 1)
     }
@@ -91,6 +99,17 @@ impl<'a> Words<'a> {
 
     fn sheet(&mut self) -> Option<Vec<u8>> {
         self.bytes(SHEET_LIMIT)
+    }
+
+    /// CLASS VERSION_NAME INVOKED PERFORMED ROLES.
+    fn user(&mut self) -> Option<Given> {
+        Some(Given {
+            class: self.string()?,
+            version_name: self.string()?,
+            invoked: self.count()?,
+            performed: self.count()?,
+            roles: self.sheet()?,
+        })
     }
 
     /// A buffer of so many equal bytes.
@@ -127,8 +146,11 @@ impl Replay {
     }
 
     fn call(&mut self, line: &str) -> Option<String> {
-        let mut words = Words { words: line.split(' ').collect(), next: 0 };
         self.last = Last::default();
+        if line.len() > LINE_LIMIT {
+            return None;
+        }
+        let mut words = Words { words: line.split(' ').collect(), next: 0 };
         match words.word()? {
             "r" => self.receiving(&mut words),
             "e" => self.numbered(&mut words),
@@ -209,19 +231,20 @@ impl Replay {
 
     fn confirmation(&mut self, words: &mut Words) -> Option<String> {
         let lent = self.record(words)?;
-        let (called, calling) = (words.string()?, words.string()?);
-        let (application, sheet) = (words.string()?, words.sheet()?);
+        let (called, calling, application) = (words.string()?, words.string()?, words.string()?);
+        let (user, sheet) = (words.user()?, words.sheet()?);
         words.end()?;
-        let request =
-            Request::Confirmation { called: &called, calling: &calling, application: &application, sheet: &sheet };
-        self.event(&lent, &request)
+        let (called, calling, application, user, sheet) = (&called, &calling, &application, &user, &sheet);
+        self.event(&lent, &Request::Confirmation { called, calling, application, user, sheet })
     }
 
     fn accept(&mut self, words: &mut Words) -> Option<String> {
         let lent = self.record(words)?;
-        let (echoed, application, sheet) = (words.string()?, words.string()?, words.sheet()?);
+        let (echoed, application) = (words.string()?, words.string()?);
+        let (user, sheet) = (words.user()?, words.sheet()?);
         words.end()?;
-        self.event(&lent, &Request::Accept { echoed: &echoed, application: &application, sheet: &sheet })
+        let (echoed, application, user, sheet) = (&echoed, &application, &user, &sheet);
+        self.event(&lent, &Request::Accept { echoed, application, user, sheet })
     }
 
     fn reject(&mut self, words: &mut Words) -> Option<String> {
@@ -253,23 +276,31 @@ impl Replay {
     }
 
     fn associate_fields(&mut self, call: &str, pdu: &[u8], words: &mut Words) -> Option<String> {
-        let lent = words.buffer(SHEET_LIMIT, 0xc3)?;
+        let lent = (words.buffer(SHEET_LIMIT, 0xc3)?, words.buffer(SHEET_LIMIT, 0xc3)?);
         words.end()?;
-        let read = if call == "Q" { read_rq(pdu, &lent) } else { read_ac(pdu, &lent) };
-        let (refusal, fields, sheet) = match read {
-            Ok((fields, sheet)) => (0, fields, sheet),
-            Err(refusal) => (refusal, Fields::default(), lent),
+        let read = if call == "Q" { read_rq(pdu, &lent.0, &lent.1) } else { read_ac(pdu, &lent.0, &lent.1) };
+        let (refusal, (fields, sheet, roles)) = match read {
+            Ok(filled) => (0, filled),
+            Err(refusal) => (refusal, (Fields::default(), lent.0, lent.1)),
         };
         self.last.refusal = refusal;
         Some(format!(
-            "{} {} {} {} {} {} {}",
+            "{} {} {} {} {} {} {} {} {} {} {} {} {} {} {}",
             refusal,
             fields.version,
             fields.application_at,
             fields.application_length,
             fields.maximum,
             fields.records,
-            digest(&sheet)
+            fields.class_at,
+            fields.class_length,
+            fields.version_name_at,
+            fields.version_name_length,
+            fields.invoked,
+            fields.performed,
+            fields.roles,
+            digest(&sheet),
+            digest(&roles)
         ))
     }
 
@@ -375,13 +406,14 @@ impl Replay {
 fn written(words: &mut Words) -> Option<Result<Vec<u8>, u8>> {
     Some(match words.words[0] {
         "1" => {
-            let (called, calling) = (words.string()?, words.string()?);
-            let (application, sheet) = (words.string()?, words.sheet()?);
-            write::rq(&called, &calling, &application, &sheet)
+            let (called, calling, application) = (words.string()?, words.string()?, words.string()?);
+            let (user, sheet) = (words.user()?, words.sheet()?);
+            write::rq(&called, &calling, &application, &user, &sheet)
         }
         "2" => {
-            let (echoed, application, sheet) = (words.string()?, words.string()?, words.sheet()?);
-            write::ac(&echoed, &application, &sheet)
+            let (echoed, application) = (words.string()?, words.string()?);
+            let (user, sheet) = (words.user()?, words.sheet()?);
+            write::ac(&echoed, &application, &user, &sheet)
         }
         "3" => {
             let (result, source, reason) = (words.byte()?, words.byte()?, words.byte()?);

@@ -20,6 +20,7 @@ use crate::random::Random;
 use crate::refused::FAULTS;
 use crate::replay::{digest, fresh, Replay};
 use crate::twists::{Expect, Twist, ABORT, AC, BOTH, CONTROL_BITS, DATA, RJ, RQ, SHORT};
+use crate::user::Given;
 use crate::valid::{judge, Pdu};
 use crate::write;
 
@@ -29,6 +30,11 @@ const IMPLICIT: &[u8] = b"1.2.840.10008.1.2";
 const EQUINE: &[u8] = b"STORE-EQUINE    ";
 const EXOTIC: &[u8] = b"STORE-EXOTIC    ";
 
+/// A class UID of 3 bytes and nothing else.
+pub fn plain() -> Given {
+    Given::class_alone(b"1.2")
+}
+
 fn in_state(state: u8) -> Lent {
     let mut lent = fresh();
     lent.record = Record { state, artim: state == 2 || state == 13, ..Record::default() };
@@ -37,11 +43,11 @@ fn in_state(state: u8) -> Lent {
 
 fn case_3_rq() -> Vec<u8> {
     let sheet = sheet_record(1, 0, VERIFICATION, IMPLICIT);
-    write::rq(EQUINE, EXOTIC, APPLICATION, &sheet).unwrap()
+    write::rq(EQUINE, EXOTIC, APPLICATION, &plain(), &sheet).unwrap()
 }
 
 fn case_3_ac() -> Vec<u8> {
-    write::ac(&case_3_rq()[10..74], APPLICATION, &sheet_record(1, 0, b"", IMPLICIT)).unwrap()
+    write::ac(&case_3_rq()[10..74], APPLICATION, &plain(), &sheet_record(1, 0, b"", IMPLICIT)).unwrap()
 }
 
 fn sent(answer: &Answer, lent: &Lent) -> Vec<u8> {
@@ -78,8 +84,9 @@ fn case_2_over_length_at_the_sixth_byte() {
 #[test]
 fn case_3_lengths() {
     let (rq, ac) = (case_3_rq(), case_3_ac());
-    assert_eq!((four_bytes(&rq[2..]), rq.len()), (155, 161));
-    assert_eq!((four_bytes(&ac[2..]), ac.len()), (134, 140));
+    // 155 and 134, and a 52H of 3 bytes.
+    assert_eq!((four_bytes(&rq[2..]), rq.len()), (155 + 7, 161 + 7));
+    assert_eq!((four_bytes(&ac[2..]), ac.len()), (134 + 7, 140 + 7));
     assert_eq!((kind(&rq).kind, kind(&ac).kind), (1, 2));
     assert_eq!(ac[10..74], rq[10..74]);
 }
@@ -148,7 +155,7 @@ fn case_11_versions() {
     assert_eq!(sent(&answer, &after), [3, 0, 0, 0, 0, 4, 0, 1, 2, 2]);
     rq[7] = 3;
     let (answer, after) = receive(&in_state(2), &rq);
-    assert_eq!((answer.action, answer.shown, after.record.state), (6, 161, 3));
+    assert_eq!((answer.action, answer.shown, after.record.state), (6, 168, 3));
     assert_eq!((after.record.peer_maximum, after.record.artim), (16_384, false));
 }
 
@@ -308,7 +315,7 @@ fn trap_2_version_of_an_otherwise_bad_rq() {
         assert_eq!(answer.action, *action);
         assert_eq!(sent(&answer, &after)[8..], *tail);
     }
-    assert_eq!(read_rq(&rq, &[0; 132]).unwrap().0.version, 2);
+    assert_eq!(read_rq(&rq, &[0; 132], &[]).unwrap().0.version, 2);
     assert!(!kind(&rq).acceptable);
     rq[10] = 0x5c;
     let (answer, after) = receive(&in_state(2), &rq);
@@ -329,7 +336,7 @@ fn trap_3_what_is_shown() {
         assert_eq!((answer.action, answer.shown), (22, 0));
     }
     let (answer, after) = receive(&in_state(5), &case_3_ac());
-    assert_eq!((answer.action, answer.shown, after.record.peer_maximum), (3, 140, 16_384));
+    assert_eq!((answer.action, answer.shown, after.record.peer_maximum), (3, 147, 16_384));
     let (answer, _) = receive(&in_state(6), &write::release_rq());
     assert_eq!((answer.action, answer.shown), (12, 0));
 }
@@ -420,7 +427,7 @@ fn trap_6_second_run() {
     let three = sheet_record(3, 0, b"1.2", b"1.3");
     let write = |records: &[&Vec<u8>]| {
         let sheet: Vec<u8> = records.iter().flat_map(|r| r.iter().copied()).collect();
-        write::rq(EQUINE, EXOTIC, b"1.2", &sheet).map(|bytes| bytes.len())
+        write::rq(EQUINE, EXOTIC, b"1.2", &plain(), &sheet).map(|bytes| bytes.len())
     };
     assert!(write(&[&one, &same, &one, &three]).is_ok());
     assert_eq!(write(&[&one, &other]), Err(4));
@@ -686,8 +693,8 @@ fn twists_of_pdus() {
 
 #[test]
 fn twists_of_sheets() {
-    let proposal = |s: &Sheet| write::rq(EQUINE, EXOTIC, b"1.2", &s.bytes()).is_ok();
-    let answer = |s: &Sheet| write::ac(&[0; 64], b"1.2", &s.bytes()).is_ok();
+    let proposal = |s: &Sheet| write::rq(EQUINE, EXOTIC, b"1.2", &plain(), &s.bytes()).is_ok();
+    let answer = |s: &Sheet| write::ac(&[0; 64], b"1.2", &plain(), &s.bytes()).is_ok();
     check_twists(&[SHEET, ABSTRACT, PROPOSAL], &mut |r| good_sheet(true, r), &proposal);
     check_twists(&[SHEET, ANSWER, REFUSED], &mut |r| good_sheet(false, r), &answer);
     let one = sheet_record(1, 0, b"1.2", b"1.2");
@@ -703,16 +710,16 @@ fn what_is_written_is_valid_and_reads_back() {
     let mut random = Random::new(11);
     for _ in 0..500 {
         let sheet = good_sheet(true, &mut random).bytes();
-        let rq = write::rq(EQUINE, EXOTIC, APPLICATION, &sheet).unwrap();
-        let (fields, read) = read_rq(&rq, &vec![0xc3; sheet.len() + 5]).unwrap();
+        let rq = write::rq(EQUINE, EXOTIC, APPLICATION, &plain(), &sheet).unwrap();
+        let (fields, read, _) = read_rq(&rq, &vec![0xc3; sheet.len() + 5], &[]).unwrap();
         assert_eq!((&read[..sheet.len()], &read[sheet.len()..]), (&sheet[..], &[0xc3; 5][..]));
         assert_eq!((fields.version, fields.maximum, fields.records), (1, 16_384, sheet.len() / 132));
         assert_eq!(&rq[fields.application_at..][..fields.application_length], APPLICATION);
-        assert_eq!(read_rq(&rq, &vec![0; sheet.len() - 1]), Err(2));
+        assert_eq!(read_rq(&rq, &vec![0; sheet.len() - 1], &[]), Err(2));
         let sheet = good_sheet(false, &mut random).bytes();
-        let ac = write::ac(&rq[10..74], APPLICATION, &sheet).unwrap();
-        assert_eq!(read_ac(&ac, &vec![0; sheet.len()]).unwrap().1, sheet);
-        assert_eq!(read_rq(&ac, &sheet), Err(7));
+        let ac = write::ac(&rq[10..74], APPLICATION, &plain(), &sheet).unwrap();
+        assert_eq!(read_ac(&ac, &vec![0; sheet.len()], &[]).unwrap().1, sheet);
+        assert_eq!(read_rq(&ac, &sheet, &[]), Err(7));
     }
 }
 
@@ -720,10 +727,10 @@ fn what_is_written_is_valid_and_reads_back() {
 fn a_long_sheet_is_5_and_with_a_bad_last_record_4() {
     let one = sheet_record(1, 0, b"1.2", b"1.2");
     let mut sheet = one.repeat(40_000);
-    assert_eq!(write::rq(EQUINE, EXOTIC, b"1.2", &sheet), Err(5));
+    assert_eq!(write::rq(EQUINE, EXOTIC, b"1.2", &plain(), &sheet), Err(5));
     let last = sheet.len() - 132;
     sheet[last + 1] = 1;
-    assert_eq!(write::rq(EQUINE, EXOTIC, b"1.2", &sheet), Err(4));
+    assert_eq!(write::rq(EQUINE, EXOTIC, b"1.2", &plain(), &sheet), Err(4));
 }
 
 // Generated calls keep what every call must keep.
@@ -850,7 +857,7 @@ impl AtOnce {
         let over = four_bytes(&pdu[2..]) > 16_384;
         let event = judged.as_ref().map_or(19, |pdu| RECEIVED[pdu.kind() as usize - 1]);
         let (version, maximum) = match &judged {
-            Ok(Pdu::Rq(read)) | Ok(Pdu::Ac(read)) => (read.version, read.maximum),
+            Ok(Pdu::Rq(read)) | Ok(Pdu::Ac(read)) => (read.version, read.user.maximum),
             _ => (0, 0),
         };
         let reason = match (&judged, over, pdu[0]) {
@@ -980,11 +987,12 @@ const ITEMS: [u8; 6] = [0, 0, 0, 2, 1, 3];
 fn give(lent: &Lent, event: u8) -> (Answer, Lent) {
     let proposal = sheet_record(1, 0, VERIFICATION, IMPLICIT);
     let answer = sheet_record(1, 0, b"", IMPLICIT);
+    let (application, user) = (APPLICATION, &plain());
     local_event(
         lent,
         &match event {
-            2 => Request::Confirmation { called: EQUINE, calling: EXOTIC, application: APPLICATION, sheet: &proposal },
-            7 => Request::Accept { echoed: &[7; 64], application: APPLICATION, sheet: &answer },
+            2 => Request::Confirmation { called: EQUINE, calling: EXOTIC, application, user, sheet: &proposal },
+            7 => Request::Accept { echoed: &[7; 64], application, user, sheet: &answer },
             8 => Request::Reject { result: 1, source: 1, reason: 7 },
             9 => Request::Data { items: &ITEMS },
             number => Request::Number(number),
@@ -995,7 +1003,7 @@ fn give(lent: &Lent, event: u8) -> (Answer, Lent) {
 fn sent_by(event: u8) -> Vec<u8> {
     match event {
         2 => case_3_rq(),
-        7 => write::ac(&[7; 64], APPLICATION, &sheet_record(1, 0, b"", IMPLICIT)).unwrap(),
+        7 => write::ac(&[7; 64], APPLICATION, &plain(), &sheet_record(1, 0, b"", IMPLICIT)).unwrap(),
         8 => vec![3, 0, 0, 0, 0, 4, 0, 1, 1, 7],
         9 => vec![4, 0, 0, 0, 0, 6, 0, 0, 0, 2, 1, 3],
         11 => vec![5, 0, 0, 0, 0, 4, 0, 0, 0, 0],

@@ -7,7 +7,7 @@ use crate::fields::{read_ac, read_rq, sheet_record, RECORD};
 use crate::generate::{hex, Call, Generator};
 use crate::names::name_is_valid;
 use crate::replay::{digest, Replay};
-use crate::tests::bytes_of;
+use crate::tests::{bytes_of, plain};
 use crate::write;
 
 /// A proposed context: its ID, its abstract name, its transfer names.
@@ -185,20 +185,20 @@ fn all_128_contexts() {
 #[test]
 fn a_proposal_too_long_to_be_sent_is_good() {
     let sheet = sheet_record(1, 0, b"1.2", b"5").repeat(4_000);
-    assert_eq!(write::rq(b"STORE-EQUINE    ", b"STORE-EXOTIC    ", b"1.2", &sheet), Err(5));
+    assert_eq!(write::rq(b"STORE-EQUINE    ", b"STORE-EXOTIC    ", b"1.2", &plain(), &sheet), Err(5));
     check_sheets(&sheet, &site(&[("1.2", "6"), ("1.2", "5")]), &[(1, 0, "5")]);
 }
 
 #[test]
 fn from_a_received_rq_to_the_ac() {
     let asked = proposal(&[(3, "1.2", &["5", "6"]), (1, "1.3", &["5"])]);
-    let rq = write::rq(b"STORE-EQUINE    ", b"STORE-EXOTIC    ", b"1.2", &asked).unwrap();
-    let (fields, read) = read_rq(&rq, &[0; 3 * RECORD]).unwrap();
+    let rq = write::rq(b"STORE-EQUINE    ", b"STORE-EXOTIC    ", b"1.2", &plain(), &asked).unwrap();
+    let (fields, read, _) = read_rq(&rq, &[0; 3 * RECORD], &[]).unwrap();
     assert_eq!(fields.records, 3);
     let (count, after) = choose(&read, &site(&[("1.2", "6")]), &[0; 2 * RECORD]).unwrap();
     assert_eq!((count, &after[..]), (2, &answers(&[(3, 0, "6"), (1, 3, "")])[..]));
-    let ac = write::ac(&rq[10..74], b"1.2", &after).unwrap();
-    assert_eq!(read_ac(&ac, &[0; 2 * RECORD]).map(|(_, sheet)| sheet), Ok(after));
+    let ac = write::ac(&rq[10..74], b"1.2", &plain(), &after).unwrap();
+    assert_eq!(read_ac(&ac, &[0; 2 * RECORD], &[]).map(|(_, sheet, _)| sheet), Ok(after));
 }
 
 // Bad sheets.

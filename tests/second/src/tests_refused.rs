@@ -6,7 +6,7 @@ use crate::calls_refused::behind_marks;
 use crate::choose::choose;
 use crate::contents::twist_marks;
 use crate::fields::{kind, read_ac, sheet_record, RECORD};
-use crate::generate::{hex, Call, Generator};
+use crate::generate::{hex, user_words, Call, Generator};
 use crate::judge::lines;
 use crate::machine::{receive, Record};
 use crate::make::Node;
@@ -14,7 +14,7 @@ use crate::names::name_is_valid;
 use crate::random::Random;
 use crate::refused::{BEHIND, FAULTS};
 use crate::replay::{digest, fresh, Replay};
-use crate::tests::{bytes_of, check_twists};
+use crate::tests::{bytes_of, check_twists, plain};
 use crate::write;
 
 fn item(kind: u8, body: &[u8]) -> Vec<u8> {
@@ -47,11 +47,11 @@ fn ac(contexts: &[Vec<u8>]) -> Vec<u8> {
 
 /// What an AC reads as, with five bytes of room to spare, which must stay as they are; None where it is no valid AC.
 fn read(pdu: &[u8]) -> Option<Vec<u8>> {
-    let found = read_ac(pdu, &[0xc3; 600 * RECORD]);
+    let found = read_ac(pdu, &[0xc3; 600 * RECORD], &[]);
     assert_eq!(found.is_ok(), kind(pdu).kind == 2);
-    let (fields, sheet) = found.ok()?;
+    let (fields, sheet, _) = found.ok()?;
     let needed = RECORD * fields.records;
-    assert_eq!(read_ac(pdu, &vec![0xc3; needed - 1]), Err(2));
+    assert_eq!(read_ac(pdu, &vec![0xc3; needed - 1], &[]), Err(2));
     assert_eq!((fields.version, &pdu[fields.application_at..][..fields.application_length]), (1, &b"1.2"[..]));
     assert!(fields.maximum == 0x4000 && sheet[needed..].iter().all(|byte| *byte == 0xc3));
     Some(sheet[..needed].to_vec())
@@ -308,7 +308,7 @@ fn received_in_sta5_and_elsewhere() {
 // Sent.
 
 fn send(sheet: &[u8]) -> Result<Vec<u8>, u8> {
-    write::ac(&[7; 64], b"1.2", sheet)
+    write::ac(&[7; 64], b"1.2", &plain(), sheet)
 }
 
 #[test]
@@ -319,13 +319,13 @@ fn the_written_form() {
             vec![0x10, 0, 0, 3, b'1', b'.', b'2'],
             vec![0x21, 0, 0, 11, 3, 0, 0, 0, 0x40, 0, 0, 3, b'1', b'.', b'3'],
             vec![0x21, 0, 0, 8, 1, 0, result, 0, 0x40, 0, 0, 0],
-            vec![0x50, 0, 0, 8, 0x51, 0, 0, 4, 0, 0, 0x40, 0],
+            vec![0x50, 0, 0, 15, 0x51, 0, 0, 4, 0, 0, 0x40, 0, 0x52, 0, 0, 3, b'1', b'.', b'2'],
         ];
         assert_eq!(pdu[74..], items.concat()[..]);
     }
-    // Case 3's AC is 134 with a name of 17 bytes.
-    let pdu = write::ac(&[7; 64], b"1.2.840.10008.3.1.1.1", &refused_record(1, 3)).unwrap();
-    assert_eq!((pdu[5], pdu.len()), (134 - 17, 140 - 17));
+    // Case 3's AC is 134 with a name of 17 bytes and no 52H.
+    let pdu = write::ac(&[7; 64], b"1.2.840.10008.3.1.1.1", &plain(), &refused_record(1, 3)).unwrap();
+    assert_eq!((pdu[5], pdu.len()), (134 - 17 + 7, 140 - 17 + 7));
 }
 
 #[test]
@@ -339,7 +339,7 @@ fn what_is_read_can_be_sent_and_reads_again() {
 /// A refused record, right or with one byte changed, behind a good one: what 2 and a answer.
 fn refusals(record: &[u8]) -> (String, String) {
     let sheet = [&sheet_record(3, 0, b"", b"1.3"), record].concat();
-    let words = format!("{} 312e32 {}", hex(&[7; 64]), hex(&sheet));
+    let words = format!("{} 312e32 {} {}", hex(&[7; 64]), user_words(&plain()), hex(&sheet));
     let first = |line: String| Replay::new().answer(&line).split(' ').next().unwrap_or("").to_string();
     (first(format!("2 {} 16390", words)), first(format!("a 3 0 0 0 0 0 0 - 16390 {}", words)))
 }
@@ -402,26 +402,27 @@ fn a_refused_record_is_none_of_a_proposal() {
     let titles: (&[u8], &[u8]) = (b"STORE-EQUINE    ", b"STORE-EXOTIC    ");
     for result in 0..=4 {
         let record = sheet_record(1, result, b"1.2", b"");
-        assert_eq!(write::rq(titles.0, titles.1, b"1.2", &record), Err(4));
-        assert_eq!(write::rq(titles.0, titles.1, b"1.2", &refused_record(1, result)), Err(4));
+        assert_eq!(write::rq(titles.0, titles.1, b"1.2", &plain(), &record), Err(4));
+        assert_eq!(write::rq(titles.0, titles.1, b"1.2", &plain(), &refused_record(1, result)), Err(4));
     }
 }
 
 #[test]
 fn four_is_tested_in_its_place() {
-    let bad = format!("{} 312e32 {}", hex(&[7; 64]), hex(&sheet_record(1, 3, b"", b"1.2")));
-    let good = format!("{} 312e32 {}", hex(&[7; 64]), hex(&refused_record(1, 3)));
+    let before = format!("{} 312e32 {}", hex(&[7; 64]), user_words(&plain()));
+    let bad = format!("{} {}", before, hex(&sheet_record(1, 3, b"", b"1.2")));
+    let good = format!("{} {}", before, hex(&refused_record(1, 3)));
     let refusal = |line: String| Replay::new().answer(&line)[..1].to_string();
-    // After 6, 3 and 1; before 2, which is by need: 105 bytes.
+    // After 6, 3 and 1; before 2, which is by need: 112 bytes.
     assert_eq!(refusal(format!("a 3 0 0 1 0 0 0 - 0 {}", bad)), "6");
     assert_eq!(refusal(format!("a 3 1 0 0 0 0 0 - 0 {}", bad)), "3");
     assert_eq!(refusal(format!("a 6 0 0 0 0 0 0 - 0 {}", bad)), "1");
     assert_eq!(refusal(format!("a 3 0 0 0 0 0 0 - 0 {}", bad)), "4");
-    assert_eq!(refusal(format!("a 3 0 0 0 0 0 0 - 104 {}", good)), "2");
-    assert_eq!(refusal(format!("a 3 0 0 0 0 0 0 - 105 {}", good)), "0");
-    assert_eq!((refusal(format!("2 {} 0", bad)), refusal(format!("2 {} 104", good))), ("4".into(), "2".into()));
+    assert_eq!(refusal(format!("a 3 0 0 0 0 0 0 - 111 {}", good)), "2");
+    assert_eq!(refusal(format!("a 3 0 0 0 0 0 0 - 112 {}", good)), "0");
+    assert_eq!((refusal(format!("2 {} 0", bad)), refusal(format!("2 {} 111", good))), ("4".into(), "2".into()));
     let sent = send(&refused_record(1, 3)).unwrap();
-    assert_eq!(Replay::new().answer(&format!("2 {} 105", good)), format!("0 105 {}", digest(&sent)));
+    assert_eq!(Replay::new().answer(&format!("2 {} 112", good)), format!("0 112 {}", digest(&sent)));
 }
 
 #[test]
@@ -542,13 +543,13 @@ fn generated_calls_judged_from_their_bytes() {
                     Some(sheet) if room < sheet.len() => call.last.refusal == 2,
                     Some(mut sheet) => {
                         sheet.resize(room, 0xc3);
-                        call.last.refusal == 0 && call.answer.ends_with(&format!(" {}", digest(&sheet)))
+                        call.last.refusal == 0 && call.answer.split(' ').nth(13) == Some(&digest(&sheet).to_string())
                     }
                 }
             }
             "K" => (call.last.kind == 2) == sheet_of(&bytes_of(words[1])).is_some(),
             "2" | "a" => {
-                let sheet = bytes_of(words[if words[0] == "2" { 3 } else { 12 }]);
+                let sheet = bytes_of(words[if words[0] == "2" { 8 } else { 17 }]);
                 answer_is_good(&sheet) || call.last.refusal == 4
             }
             _ => continue,

@@ -23,6 +23,13 @@ pub struct Twist<P: 'static> {
     pub edit: fn(&mut P, &mut Random),
 }
 
+impl<P> Twist<P> {
+    /// Whether it is of the wanted expectation, if one is given.
+    pub fn fits(&self, want: Option<Expect>) -> bool {
+        want.is_none() || want == Some(self.expect)
+    }
+}
+
 /// A twist that keeps the rules.
 pub const fn inside<P>(name: &'static str, edit: fn(&mut P, &mut Random)) -> Twist<P> {
     Twist { name, expect: Expect::Inside, edit }
@@ -104,8 +111,8 @@ pub static BOTH: &[Twist<Plan>] = &[
     }),
     inside("51H behind the other sub-items", |p, _| {
         p.with_item(0x50, |user| {
-            user.inner.insert(0, Node::leaf(0x55, b"VERSION"));
-            user.inner.insert(0, Node::leaf(0x52, b"1.2.3"));
+            let (maximum, others): (Vec<Node>, Vec<Node>) = user.inner.drain(..).partition(|node| node.kind == 0x51);
+            user.inner.extend(others.into_iter().chain([Node::leaf(0x59, b"")]).chain(maximum));
         });
     }),
     inside("reserved bytes of any value", |p, r| p.fill_reserved(r)),

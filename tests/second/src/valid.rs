@@ -2,6 +2,7 @@
 
 use crate::items::{four_bytes, is_odd, split_items, split_pdvs, two_bytes, Fault, Item, Pdv};
 use crate::names::{name_is_valid, title_is_valid};
+use crate::user::{judge_user, User};
 
 /// One limit for the PDU-length of all types.
 pub const LIMIT: u64 = 16_384;
@@ -24,7 +25,7 @@ pub struct Associate<'a> {
     pub application_at: usize,
     pub application: &'a [u8],
     pub contexts: Vec<Context<'a>>,
-    pub maximum: u32,
+    pub user: User<'a>,
 }
 
 impl<'a> Associate<'a> {
@@ -169,7 +170,7 @@ fn judge_associate(body: &[u8], context: u8) -> Result<Associate<'_>, Fault> {
         application_at: known[0].at,
         application: good_name(&known[0], "a bad application name")?,
         contexts,
-        maximum: judge_user_information(&known[last])?,
+        user: judge_user(&known[last])?,
     })
 }
 
@@ -243,14 +244,4 @@ fn judge_refused<'a>(id: u8, result: u8) -> Result<Context<'a>, Fault> {
         return Err("a context result above 4");
     }
     Ok(Context { id, result, abstract_name: &[], transfers: vec![&[]] })
-}
-
-/// 50H: exactly one 51H of length 4; answers the maximum length.
-fn judge_user_information(item: &Item) -> Result<u32, Fault> {
-    let inner = split_items(item.body, item.at)?;
-    let known: Vec<&Item> = inner.iter().filter(|i| i.kind == 0x51).collect();
-    if known.len() != 1 || known[0].body.len() != 4 {
-        return Err("a 50H without exactly one 51H of length 4");
-    }
-    Ok(four_bytes(known[0].body) as u32)
 }

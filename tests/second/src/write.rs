@@ -3,10 +3,8 @@
 use crate::fields::RECORD;
 use crate::items::{is_odd, split_pdvs};
 use crate::names::{name_is_valid, title_is_valid};
+use crate::user::{user_item, Given};
 use crate::valid::{provider_abort_is_good, reject_values_are_good, LIMIT};
-
-/// The maximum length we send.
-const OUR_MAXIMUM: u32 = 16_384;
 
 /// A PDU of a type with a body of any length; too long a one is refused later, unsent.
 pub fn pdu(kind: u8, body: &[u8]) -> Vec<u8> {
@@ -16,7 +14,8 @@ pub fn pdu(kind: u8, body: &[u8]) -> Vec<u8> {
     bytes
 }
 
-fn item(kind: u8, body: &[u8]) -> Vec<u8> {
+/// An item of a type with a body; one too long for its length field is refused later with the PDU, unsent.
+pub fn item(kind: u8, body: &[u8]) -> Vec<u8> {
     let mut bytes = vec![kind, 0];
     bytes.extend_from_slice(&(body.len() as u16).to_be_bytes());
     bytes.extend_from_slice(body);
@@ -31,8 +30,8 @@ pub struct Record<'a> {
     pub transfer: &'a [u8],
 }
 
-/// The names of a 64-byte field: the used bytes, when the unused ones are zero.
-fn name_field(field: &[u8], length: u8) -> Result<&[u8], u8> {
+/// The name of a 64-byte field: the used bytes, when the unused ones are zero.
+pub fn name_field(field: &[u8], length: u8) -> Result<&[u8], u8> {
     let length = length as usize;
     if length > field.len() || field[length..].iter().any(|b| *b != 0) {
         return Err(4);
@@ -118,37 +117,31 @@ fn answer(sheet: &[u8]) -> Result<Vec<u8>, u8> {
     Ok(items)
 }
 
-/// 10H, the contexts, then 50H with our maximum.
-fn variable_items(application: &[u8], contexts: Vec<u8>) -> Vec<u8> {
-    let mut items = item(0x10, application);
-    items.extend(contexts);
-    items.extend(item(0x50, &item(0x51, &OUR_MAXIMUM.to_be_bytes())));
-    items
-}
-
-/// Version 1 and two reserved bytes, the 64 bytes given, then the items.
-fn associate(kind: u8, middle: &[u8], application: &[u8], contexts: Vec<u8>) -> Vec<u8> {
+/// Version 1 and two reserved bytes, the 64 bytes given, then 10H, the contexts and 50H.
+fn associate(kind: u8, middle: &[u8], application: &[u8], contexts: Vec<u8>, user: Vec<u8>) -> Vec<u8> {
     let mut body = vec![0, 1, 0, 0];
     body.extend_from_slice(middle);
-    body.extend(variable_items(application, contexts));
+    body.extend(item(0x10, application));
+    body.extend(contexts);
+    body.extend(user);
     pdu(kind, &body)
 }
 
-pub fn rq(called: &[u8], calling: &[u8], application: &[u8], sheet: &[u8]) -> Result<Vec<u8>, u8> {
+pub fn rq(called: &[u8], calling: &[u8], application: &[u8], user: &Given, sheet: &[u8]) -> Result<Vec<u8>, u8> {
     if !title_is_valid(called) || !title_is_valid(calling) || !name_is_valid(application) {
         return Err(4);
     }
-    let contexts = proposal(sheet)?;
+    let (contexts, user) = (proposal(sheet)?, user_item(user)?);
     let middle = [called, calling, &[0; 32]].concat();
-    within_limit(associate(1, &middle, application, contexts), 0)
+    within_limit(associate(1, &middle, application, contexts, user), 0)
 }
 
-pub fn ac(echoed: &[u8], application: &[u8], sheet: &[u8]) -> Result<Vec<u8>, u8> {
+pub fn ac(echoed: &[u8], application: &[u8], user: &Given, sheet: &[u8]) -> Result<Vec<u8>, u8> {
     if echoed.len() != 64 || !name_is_valid(application) {
         return Err(4);
     }
-    let contexts = answer(sheet)?;
-    within_limit(associate(2, echoed, application, contexts), 0)
+    let (contexts, user) = (answer(sheet)?, user_item(user)?);
+    within_limit(associate(2, echoed, application, contexts, user), 0)
 }
 
 pub fn rj(result: u8, source: u8, reason: u8) -> Result<Vec<u8>, u8> {

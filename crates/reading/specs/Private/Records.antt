@@ -1,16 +1,25 @@
--- For the private functions: the records of the contexts in an RQ or AC. Names longer than a field are cut, which no valid PDU has.
-use Prim.Native.Nat.{ℕ, _+_}
+-- For the private functions: the records of the contexts and of the roles in an RQ or AC, and its other fields. Names longer than a field are cut, which no valid PDU has.
+use Prim.Native.Nat.{ℕ, _+_, _*_}
+use mathlib.Core.Path.{_≡_}
 use mathlib.Core.Bool.{cond}
 use mathlib.Core.List.{List, [], _∷_, _++_}
 use lib.ListN.{length}
 use lib.Dec.{eqb}
+use Rattle.laws.specs.Lists.{empty}
 use Rattle.numbers.specs.Kinds.{ASSOCIATE-RQ}
-use Rattle.items.specs.Items.{walk, bodies}
+use Rattle.numbers.specs.Lengths.{RECORD, ROLE}
+use Rattle.octets.specs.Put.{front}
+use Rattle.items.specs.Items.{Walk, walk, bodies, place}
 use Rattle.contents.specs.Contents.{maximumIn}
 use Rattle.judging.specs.Pdu.{versionOf, topItems}
 use Rattle.sheets.specs.Record.{recordOf}
-use Rattle.reading.specs.Associate.{contextOf, answerOf, applicationOf, applicationAt}
+use Rattle.roles.specs.Record.{recordOf as roleRecordOf}
+use Rattle.user_items.specs.Kinds.{roleOf}
+use Rattle.user_items.specs.Said.{invokedSaid, performedSaid}
+use Rattle.reading.specs.Associate.{contextOf, answerOf, applicationOf, applicationAt, subItemsOf, subItemAt, subItemLen, sheetIn, rolesSheetIn}
 use Rattle.reading.specs.declared.associate.Associate.{Associate}
+use Rattle.reading.specs.declared.two_sheets.Counts.{Counts}
+use Rattle.reading.specs.declared.user.UserRead.{UserRead}
 
 -- f of each, one behind the other
 unfoldable pub each : (List ℕ → List ℕ) → List (List ℕ) → List ℕ
@@ -31,9 +40,43 @@ allRecords k s = each (bodyRecords k) (bodies k (walk s))
 unfoldable pub contextType : ℕ → ℕ
 contextType kind = cond (eqb kind ASSOCIATE-RQ) 0x20 0x21
 
--- the fields of an RQ or AC that gives so many records
-unfoldable pub fieldsWith : List ℕ → ℕ → Associate
-fieldsWith pdu n =
+-- the record of the role in the body of a 54H
+unfoldable pub roleRecord : List ℕ → List ℕ
+roleRecord b = roleRecordOf (roleOf b .uid) (roleOf b .scu) (roleOf b .scp)
+
+-- those of all roles in the body of a 50H
+abbrev pub allRoles : List ℕ → List ℕ
+allRoles u = each roleRecord (bodies 0x54 (walk u))
+
+-- how many records the sheet and the role sheet get
+pub record Counted (kind : ℕ) (pdu : List ℕ) (n : Counts) : Type 0 where
+  pub records : RECORD * n .records ≡ length (sheetIn kind pdu)
+  pub roles : ROLE * n .roles ≡ length (rolesSheetIn pdu)
+
+-- they were put into the sheet s and the role sheet t, which are now s′ and t′
+pub record Filled (kind : ℕ) (pdu s t s′ t′ : List ℕ) : Type 0 where
+  pub sheet : s′ ≡ front s (sheetIn kind pdu)
+  pub roles : t′ ≡ front t (rolesSheetIn pdu)
+
+-- where the body of the first item of a type stands, for items that stand from a place on
+unfoldable pub bodyAt : ℕ → ℕ → Walk → ℕ
+bodyAt t from w = cond (empty (bodies t w)) 0 (from + place t w)
+
+-- the fields of the user information
+unfoldable pub userIn : List ℕ → UserRead
+userIn pdu =
+    record {
+      «class_at» = subItemAt 0x52 pdu;
+      «class_len» = subItemLen 0x52 pdu;
+      «version_name_at» = subItemAt 0x55 pdu;
+      «version_name_len» = subItemLen 0x55 pdu;
+      invoked = invokedSaid (subItemsOf pdu);
+      performed = performedSaid (subItemsOf pdu);
+    }
+
+-- the fields of an RQ or AC that gives so many records and roles
+unfoldable pub fieldsWith : List ℕ → ℕ → ℕ → Associate
+fieldsWith pdu n m =
     record {
       refusal = 0;
       version = versionOf pdu;
@@ -41,4 +84,11 @@ fieldsWith pdu n =
       «application_len» = length (applicationOf pdu);
       maximum = maximumIn (topItems pdu);
       records = n;
+      «class_at» = subItemAt 0x52 pdu;
+      «class_len» = subItemLen 0x52 pdu;
+      «version_name_at» = subItemAt 0x55 pdu;
+      «version_name_len» = subItemLen 0x55 pdu;
+      invoked = invokedSaid (subItemsOf pdu);
+      performed = performedSaid (subItemsOf pdu);
+      roles = m;
     }

@@ -8,5 +8,6 @@ fields-spec =
     tie.close
     (tie.spec
     (λ c. search fields-laws) (λ c. search fields-laws) (λ c. search fields-laws)  -- sub-s, part-s-start, part-s-end
-    (λ c κs. search fields-laws) (λ c κs. search fields-laws) (λ c. search fields-laws)  -- be16-at-requires, place-of-requires, add-t8
-    (λ c κs. search fields-laws) (λ c κs. search fields-laws) (λ c. search fields-laws))  -- first-of-requires, maximum-in-requires, returns
+    (λ c κs. search fields-laws) (λ c κs. search fields-laws) (λ c κs. search fields-laws)  -- user-in-requires, be16-at-requires, place-of-requires
+    (λ c. search fields-laws) (λ c κs. search fields-laws) (λ c κs. search fields-laws)  -- add-t10, first-of-requires, maximum-in-requires
+    (λ c. search fields-laws))  -- returns

@@ -9,7 +9,7 @@ abbrev Inv-loop : tie.InvT-loop
 Inv-loop line₀ start most dash n₀ end₀ line n end = start + n ≤ end
 
 abbrev μ-loop : tie.MeasureT-loop
-μ-loop line₀ start most dash n₀ end₀ line n end = 270000 - end
+μ-loop line₀ start most dash n₀ end₀ line n end = 480000 - end
 
 pub bytes-at-spec : {M : Type 1} → statement M
 bytes-at-spec =

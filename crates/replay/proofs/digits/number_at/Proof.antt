@@ -9,7 +9,7 @@ abbrev Inv-loop : tie.InvT-loop
 Inv-loop line start most number₀ end₀ number end = start ≤ end
 
 abbrev μ-loop : tie.MeasureT-loop
-μ-loop line start most number₀ end₀ number end = 270000 - end
+μ-loop line start most number₀ end₀ number end = 480000 - end
 
 pub number-at-spec : {M : Type 1} → statement M
 number-at-spec =

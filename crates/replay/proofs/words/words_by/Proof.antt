@@ -6,10 +6,10 @@ use Rattle.replay.proofs.words.words_by.Statement.{statement}
 use Rattle.replay.proofs.words.words_by.Tie as tie
 
 abbrev Inv-loop : tie.InvT-loop
-Inv-loop line₀ f own words₀ next₀ k₀ line words next k = k ≤ 14
+Inv-loop line₀ f own words₀ next₀ k₀ line words next k = k ≤ 19
 
 abbrev μ-loop : tie.MeasureT-loop
-μ-loop line₀ f own words₀ next₀ k₀ line words next k = 14 - k
+μ-loop line₀ f own words₀ next₀ k₀ line words next k = 19 - k
 
 pub words-by-spec : {M : Type 1} → statement M
 words-by-spec =

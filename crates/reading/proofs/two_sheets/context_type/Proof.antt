@@ -1,8 +1,8 @@
 -- `reading::context_type` meets its contract. Assumes nothing.
 use Rattle.reading.specs.Private.Records.{contextType}
 use Rattle.laws.proofs.Tests.{follow}
-use Rattle.reading.proofs.associate.context_type.Statement.{statement}
-use Rattle.reading.proofs.associate.context_type.Tie as tie
+use Rattle.reading.proofs.two_sheets.context_type.Statement.{statement}
+use Rattle.reading.proofs.two_sheets.context_type.Tie as tie
 
 returns : tie.Need-returns
 unfolding contextType
