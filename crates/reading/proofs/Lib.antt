@@ -5,7 +5,6 @@ pub mod ReadLaws
 pub mod ValueLaws
 pub mod DataLaws
 pub mod PlaceLaws
-
 pub mod Agree
 pub mod Meaning
 pub mod Examples

@@ -32,14 +32,32 @@ use crate::writers;
 // Up to three words, and the length of the buffer that the call lends.
 fn words(first: u8, second: u8, third: u8, lent: u8) -> [u8; 10] {
     [
-        first, second, third, NONE, NONE, NONE, NONE, NONE, NONE, lent,
+        first,
+        second,
+        third,
+        NONE,
+        NONE,
+        NONE,
+        NONE,
+        NONE,
+        NONE,
+        lent,
     ]
 }
 
 // The words of an RQ or AC that is to be written: those before the user information (of an AC there is no first), its five, and the sheet.
 fn associate_words(first: u8, lent: u8) -> [u8; 10] {
     [
-        first, BYTES, BYTES, BYTES, BYTES, SHORT, SHORT, SHEET, SHEET, lent,
+        first,
+        BYTES,
+        BYTES,
+        BYTES,
+        BYTES,
+        SHORT,
+        SHORT,
+        SHEET,
+        SHEET,
+        lent,
     ]
 }
 

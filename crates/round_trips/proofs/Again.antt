@@ -4,7 +4,7 @@
 use Prim.Native.Nat.{ℕ, _+_, _-_, _*_, _≤_, _<_}
 use native.Mathlib.Omega.{arith}
 use native.Mathlib.Decide.{decLt}
-use mathlib.Core.Bool.{true, false, _&&_, or-true}
+use mathlib.Core.Bool.{true, false, _&&_}
 use mathlib.Core.List.{List, [], _∷_, _++_, map}
 use mathlib.Core.Path.{_≡_, refl, sym, ap, _∙_}
 use lib.ListN.{length, take, drop, getD, replicate, length-append, length-drop}
@@ -22,6 +22,7 @@ use Rattle.items.proofs.HoldLaws.{first-good}
 use Rattle.items.proofs.WireLaws.{item-length}
 use Rattle.user_items.specs.Kinds.{good50H}
 use Rattle.user_items.specs.Sent.{userGood, userBytes}
+use Rattle.user_items.proofs.GoodLaws.{user-size}
 use Rattle.contents.specs.Contents.{topGood, itemsOk}
 use Rattle.contents.proofs.GoodLaws.{items-filled, items-good, items-counts}
 use Rattle.numbers.specs.Lengths.{HEADER, LONGEST, BUFFER}
@@ -34,6 +35,7 @@ use Rattle.sheets.specs.Sheet.{answersIn, answersOk}
 use Rattle.sheets.proofs.Inverse.{answered-fits, answers-answered, answers-length}
 use Rattle.sheet_room.proofs.Room.{answer-most, answers-most}
 use Rattle.sheet_room.proofs.Sizes.{sizesOf}
+use Rattle.reading.proofs.ReadLaws.{user-of}
 use Rattle.reading.proofs.Meaning.{request-sheet-good, request-sheet-back, accept-sheet-good, accept-sheet-back}
 use Rattle.reading.specs.Associate.{proposed, answered, applicationOf, subItemsOf, sheetIn}
 use Rattle.writing.specs.Fields.{AcFields, rqGood, acGood}
@@ -46,21 +48,14 @@ use Rattle.round_trips.specs.Trips.{RqTrip, AcTrip, userRead, classGrown
 use Rattle.round_trips.proofs.PduTrip.{Apart, top-good, among-top}
 use Rattle.round_trips.proofs.ContextTrip.{ContextKind, proposing, answering, grown, bodies-short, none-grown, refused-grown}
 use Rattle.round_trips.proofs.Share.{shares, items-size, first-size}
-use Rattle.round_trips.proofs.UserAgain.{user-eight, user-again, user-shorter}
+use Rattle.round_trips.proofs.UserAgain.{user-again, user-shorter}
 use Rattle.round_trips.proofs.SentTrip.{sent-rq, sent-ac}
 
--- ---- the top: the application name, the 50H, and the room that a 10H, the contexts and the 50H take
+-- ---- the top: the application name, and the room that a 10H, the contexts and the 50H take
 module _ (k : ℕ) (w : Apart k) (s : List ℕ) (g : itemsOk k s ≡ true) where
   top-name : nameOk (first (bodies 0x10 (walk s))) ≡ true
   unfolding topGood among
   top-name = let n = items-counts k s g (w .name) (w .user) .applications in first-good nameOk (bodies 0x10 (walk s)) (omega arith) (items-good k s g 0x10 refl)
-
-  top-user : good50H (first (bodies 0x50 (walk s))) ≡ true
-  unfolding topGood among
-  top-user =
-      let n = items-counts k s g (w .name) (w .user) .users in
-      let x : topGood k 0x50 (first (bodies 0x50 (walk s))) ≡ true = first-good (topGood k 0x50) (bodies 0x50 (walk s)) (omega arith) (items-good k s g 0x50 (or-true (eqb 0x50 k))) in
-      rw (w .user′) at x
 
   top-short : 4 + length (first (bodies 0x10 (walk s))) + (length (itemsBytes k (bodies k (walk s))) + (4 + length (first (bodies 0x50 (walk s))))) ≤ length s
   unfolding sizesOf distinct among
@@ -92,12 +87,12 @@ module _ {C : Type 0} (k : ContextKind C) (pdu : List ℕ) (n : 74 ≤ length pd
       omega arith
 
   shorter : (given : List ℕ) (f : AssociatePdu) → length (f .middle) ≡ 64 → f .user ≡ userBytes (userRead given pdu) → f .application ≡ applicationOf pdu → f .context ≡ k .type
-      → f .bodies ≡ map (k .body) (map (k .read) bs) → length (associateBytes f) ≤ length pdu + grown k (map (k .read) bs) + classGrown given pdu
-  shorter given f m u a t b =
+      → f .bodies ≡ map (k .body) (map (k .read) bs) → good50H body ≡ true → length (associateBytes f) ≤ length pdu + grown k (map (k .read) bs) + classGrown given pdu
+  shorter given f m u a t b o =
       let l = associate-long f in
       let i = ap length a in
       let v = ap length u ∙ user-long (userRead given pdu) in
-      let y = user-shorter given pdu (top-user (k .type) (k .apart) (topItems pdu) g) in
+      let y = user-shorter given pdu o in
       let x : length (itemsBytes (f .context) (f .bodies)) ≡ length (itemsBytes (k .type) (map (k .body) (map (k .read) bs))) = rw (t, b) in
       let r = taken in
       omega arith
@@ -140,6 +135,9 @@ none-added given pdu e = rw e
 
 -- ---- an RQ
 module _ (pdu : List ℕ) (e : kindOf pdu ≡ ASSOCIATE-RQ) where
+  rq-user : good50H (first (bodies 0x50 (walk (topItems pdu)))) ≡ true
+  rq-user = user-of pdu ASSOCIATE-RQ (omega arith) (omega arith) e
+
   pub rq-name : nameOk (applicationOf pdu) ≡ true
   unfolding applicationOf
   rq-name = top-name 0x20 (proposing .apart) (topItems pdu) (request-items pdu e)
@@ -150,7 +148,7 @@ module _ (pdu : List ℕ) (e : kindOf pdu ≡ ASSOCIATE-RQ) where
   rq-room =
       let t = taken proposing pdu (request-long pdu e) (request-items pdu e) in
       let z = none-grown (proposed pdu) in
-      let u = user-eight (first (bodies 0x50 (walk (topItems pdu)))) (top-user 0x20 (proposing .apart) (topItems pdu) (request-items pdu e)) in
+      let u = user-size (first (bodies 0x50 (walk (topItems pdu)))) rq-user in
       omega arith
 
   title-16 : (at : ℕ) → at + 16 ≤ length pdu → length (take 16 (drop at pdu)) ≡ 16
@@ -169,7 +167,7 @@ module _ (given pdu : List ℕ) (n : nameOk given ≡ true) (b : (i : ℕ) → g
       let o = titles-ok pdu e in
       both-of (titleOk (calledOf pdu)) _ (left-of _ (titleOk (callingOf pdu) && itemsOk 0x20 (topItems pdu)) o)
       (both-of (titleOk (callingOf pdu)) _ (left-of _ (itemsOk 0x20 (topItems pdu)) (right-of (titleOk (calledOf pdu)) _ o))
-      (both-of _ _ (rq-name pdu e) (both-of _ _ (user-again given pdu (top-user 0x20 (proposing .apart) (topItems pdu) (request-items pdu e)) n b) (request-sheet-good pdu e))))
+      (both-of _ _ (rq-name pdu e) (both-of _ _ (user-again given pdu (rq-user pdu e) n b) (request-sheet-good pdu e))))
 
   -- in no more bytes, but for the class UID
   pub rq-again-short : length (rqForm (rqRead given pdu) .pdu) ≤ length pdu + classGrown given pdu
@@ -181,7 +179,7 @@ module _ (given pdu : List ℕ) (n : nameOk given ≡ true) (b : (i : ℕ) → g
       let c = length-append (calledOf pdu) (callingOf pdu ++ replicate 32 0) in
       let d = length-append (callingOf pdu) (replicate 32 0) in
       let z = none-grown (proposed pdu) in
-      let s = shorter proposing pdu n (request-items pdu e) given (rqPdu (rqRead given pdu)) (omega arith) refl refl refl (ap (map contextBody) (request-sheet-back pdu e)) in
+      let s = shorter proposing pdu n (request-items pdu e) given (rqPdu (rqRead given pdu)) (omega arith) refl refl refl (ap (map contextBody) (request-sheet-back pdu e)) (rq-user pdu e) in
       omega arith
 
   pub rq-writable : Writable (rqForm (rqRead given pdu))
@@ -238,6 +236,9 @@ unfolding acGood
 accept-never-long f b g = ac-allowed f g (answers-most (f .sheet) b (right-of (userGood (f .user)) _ (right-of (nameOk (f .application)) _ (right-of (eqb (length (f .echoed)) 64) _ g))))
 
 module _ (given pdu : List ℕ) (n : nameOk given ≡ true) (b : (i : ℕ) → getD pdu i 0 < 256) (e : kindOf pdu ≡ ASSOCIATE-AC) where
+  ac-user : good50H (first (bodies 0x50 (walk (topItems pdu)))) ≡ true
+  ac-user = user-of pdu ASSOCIATE-AC (omega arith) (omega arith) e
+
   echoed-64 : length (take 64 (drop 10 pdu)) ≡ 64
   echoed-64 = let n = accept-long pdu e in length-take-le 64 (drop 10 pdu) (omega (arith, length-drop 10 pdu))
 
@@ -246,14 +247,14 @@ module _ (given pdu : List ℕ) (n : nameOk given ≡ true) (b : (i : ℕ) → g
   ac-again-good =
       both-of _ _ (eq-eqb (length (take 64 (drop 10 pdu))) 64 echoed-64)
       (both-of _ _ (top-name 0x21 (answering .apart) (topItems pdu) (accept-items pdu e))
-      (both-of _ _ (user-again given pdu (top-user 0x21 (answering .apart) (topItems pdu) (accept-items pdu e)) n b) (accept-sheet-good pdu e)))
+      (both-of _ _ (user-again given pdu ac-user n b) (accept-sheet-good pdu e)))
 
   -- each refused context takes at most 4 bytes more than it came with
   pub ac-again-longer : length (acForm (acRead given pdu) .pdu) ≤ length pdu + 4 * refusals (answered pdu) + classGrown given pdu
   unfolding acForm acPdu answered
   ac-again-longer =
       let z = refused-grown (answered pdu) in
-      let s = shorter answering pdu (accept-long pdu e) (accept-items pdu e) given (acPdu (acRead given pdu)) echoed-64 refl refl refl (ap (map answerBody) (accept-sheet-back pdu e)) in
+      let s = shorter answering pdu (accept-long pdu e) (accept-items pdu e) given (acPdu (acRead given pdu)) echoed-64 refl refl refl (ap (map answerBody) (accept-sheet-back pdu e)) ac-user in
       omega arith
 
   pub ac-writable : Writable (acForm (acRead given pdu))

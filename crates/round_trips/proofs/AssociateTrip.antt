@@ -17,11 +17,13 @@ use Rattle.names.specs.Name.{nameOk}
 use Rattle.titles.specs.Title.{titleOk}
 use Rattle.titles.proofs.TitleLaws.{title-sixteen}
 use Rattle.items.specs.Items.{Walk, walk, bodies, first, place}
-use Rattle.roles.specs.Sheet.{roleSheet, roleSheetOk}
+use Rattle.items.proofs.PlaceLaws.{stands}
+use Rattle.roles.specs.Sheet.{roleSheet}
 use Rattle.roles.proofs.Inverse.{role-sheet-back}
-use Rattle.user_items.specs.Kinds.{good50H, versionOk}
+use Rattle.user_items.specs.Kinds.{good50H}
 use Rattle.user_items.specs.Said.{versionSaid, invokedSaid, performedSaid, rolesSaid}
 use Rattle.user_items.specs.Sent.{User, userGood, userBytes}
+use Rattle.user_items.proofs.SentLaws.{given-sheet, sent-51, sent-52, sent-good, sent-version, sent-no-version, sent-invoked, sent-performed, sent-roles, sent-class-place, sent-version-place}
 use Rattle.contents.specs.Contents.{itemsOk, maximumIn}
 use Rattle.judging.specs.Pdu.{calledOf, callingOf, topItems, requestOk, acceptOk, validAs, kindOf, acceptable, maximumOf}
 use Rattle.judging.proofs.KindLaws.{kind-of-valid}
@@ -29,13 +31,12 @@ use Rattle.sheets.specs.Contexts.{contextsOk, allAnsweredOk}
 use Rattle.sheets.specs.Sheet.{contextsIn, sheetOf, proposalOk, answersIn, answerSheetOf, answersOk}
 use Rattle.sheets.proofs.Inverse.{proposal-contexts, proposal-back, answers-answered, answer-sheet-back}
 use Rattle.reading.specs.Associate.{proposed, answered, applicationOf, applicationAt, subItemsOf, subItemsAt, subItemAt, subItemLen, sheetIn, rolesSheetIn, fieldsOf, associateRefusal, associateOf, filling, rolesFilling}
-use Rattle.reading.proofs.Meaning.{application-stands}
+use Rattle.reading.proofs.Meaning.{application-stands, class-stands, version-stands}
 use Rattle.writing.specs.Fields.{RqFields, AcFields, rqGood, acGood}
 use Rattle.writing.specs.Wire.{AssociatePdu, associateItems, associateBytes, pduBytes, rqPdu, acPdu}
 use Rattle.writing.specs.Form.{rqForm, acForm}
 use Rattle.writing.proofs.Case3.{associate-long}
 use Rattle.round_trips.specs.Trips.{AssociateTrip, RqTrip, AcTrip, readOf, classAt, versionAt}
-use Rattle.round_trips.proofs.Stub.{sent-good, sent-maximum, sent-class, sent-class-at, sent-version, sent-version-none, sent-version-at, sent-invoked, sent-performed, sent-roles, sub-item-stands}
 use Rattle.round_trips.proofs.ContextTrip.{ContextKind, proposing, answering, Bodies, bodies-back}
 use Rattle.round_trips.proofs.PduTrip.{Apart, Fits, items-small, last-small, associate-kind, frame-version, associate-whole, associate-68, at-middle, at-application, at-place, at-bodies, at-user, user-last, associate-items-ok}
 
@@ -57,11 +58,6 @@ module _ {C : Type 0} (k : ContextKind C) (f : AssociatePdu) (w : Fits f) (cs : 
   contexts-at = ap (map (k .read)) (at-bodies f w ∙ e) ∙ listed .back
 
 -- ---- of either: with user information that may be sent it fits
-user-roles : (u : User) → userGood u ≡ true → roleSheetOk (u .roles) ≡ true
-unfolding userGood
-user-roles u g =
-    left-of _ _ (right-of (empty (u .version) || versionOk (u .version)) _ (right-of (nameOk (u .class)) _ g))
-
 fits-with : (f : AssociatePdu) (u : User) → f .user ≡ userBytes u → userGood u ≡ true → length (f .middle) ≡ 64 → length (associateBytes f) ≤ 16390 → Apart (f .context) → Fits f
 fits-with f u e g m l a =
     let n = associate-long f in
@@ -96,15 +92,15 @@ module _ (f : AssociatePdu) (w : Fits f) (u : User) (g : userGood u ≡ true) (x
 
   maximum-at : maximumOf pdu ≡ 16384
   unfolding maximumOf maximumIn be32 be16
-  maximum-at = rw (v, a) (ap (λ (b : List ℕ). be32 (first (bodies 0x51 (walk b))) 0) (at-user f w ∙ x) ∙ ap (λ (bs : List (List ℕ)). be32 (first bs) 0) (sent-maximum u g user-small))
+  maximum-at = rw (v, a) (ap (λ (b : List ℕ). be32 (first (bodies 0x51 (walk b))) 0) (at-user f w ∙ x) ∙ ap (λ (bs : List (List ℕ)). be32 (first bs) 0) (sent-51 u user-small))
 
   class-is : bodies 0x52 (subItemsOf pdu) ≡ u .class ∷ []
-  class-is = ap (bodies 0x52) user-at ∙ sent-class u g user-small
+  class-is = ap (bodies 0x52) user-at ∙ sent-52 u user-small
 
   class-at : subItemAt 0x52 pdu ≡ classAt u (length pdu)
   unfolding subItemAt classAt
   class-at =
-      let p = ap (place 0x52) user-at ∙ sent-class-at u g user-small in
+      let p = ap (place 0x52) user-at ∙ sent-class-place u user-small in
       let e = user-from in
       rw class-is (omega arith)
 
@@ -117,7 +113,7 @@ module _ (f : AssociatePdu) (w : Fits f) (u : User) (g : userGood u ≡ true) (x
   version-long = ap length (ap versionSaid user-at ∙ sent-version u g user-small)
 
   version-none : empty (bodies 0x55 (subItemsOf pdu)) ≡ empty (u .version)
-  version-none = ap (λ (v : Walk). empty (bodies 0x55 v)) user-at ∙ sent-version-none u g user-small
+  version-none = ap (λ (v : Walk). empty (bodies 0x55 v)) user-at ∙ sent-no-version u g user-small
 
   version-at : subItemAt 0x55 pdu ≡ versionAt u (length pdu)
   unfolding subItemAt versionAt
@@ -127,7 +123,9 @@ module _ (f : AssociatePdu) (w : Fits f) (u : User) (g : userGood u ≡ true) (x
       go true e = refl
       go false e =
           let p = ap (place 0x55) user-at in
-          let q = sent-version-at u g user-small e in
+          let q = sent-version-place u user-small e in
+          let w = stands 0x55 (userBytes u) .within in
+          let n = ap length (sent-version u g user-small) in
           let l = user-from in
           omega arith
 
@@ -139,7 +137,7 @@ module _ (f : AssociatePdu) (w : Fits f) (u : User) (g : userGood u ≡ true) (x
 
   roles-at : rolesSheetIn pdu ≡ u .roles
   unfolding rolesSheetIn
-  roles-at = ap (λ (v : Walk). roleSheet (rolesSaid v)) user-at ∙ (ap roleSheet (sent-roles u g user-small) ∙ role-sheet-back (u .roles) (user-roles u g))
+  roles-at = ap (λ (v : Walk). roleSheet (rolesSaid v)) user-at ∙ (ap roleSheet (sent-roles u g user-small) ∙ role-sheet-back (u .roles) (given-sheet u g))
 
   fields-at : fieldsOf kind pdu ≡ readOf (f .application) u sheet (length pdu)
   fields-at = rw (frame-version f w, place-at, application-at, maximum-at, s, class-at, class-long, version-at, version-long, invoked-at, performed-at, roles-at)
@@ -165,8 +163,8 @@ module _ (f : AssociatePdu) (w : Fits f) (u : User) (g : userGood u ≡ true) (x
       record {
         name = application-at;
         stands = rw (application-at, place-at) at (application-stands pdu);
-        class-stands = rw (class-long, class-at) at (sub-item-stands 0x52 pdu) ∙ ap first class-is;
-        version-stands = rw (version-long, version-at) at (sub-item-stands 0x55 pdu) ∙ (ap versionSaid user-at ∙ sent-version u g user-small);
+        class-stands = rw (class-long, class-at) at (class-stands pdu) ∙ ap first class-is;
+        version-stands = rw (version-long, version-at) at (version-stands pdu) ∙ (ap versionSaid user-at ∙ sent-version u g user-small);
         read = λ room rolesRoom h l. read-is room rolesRoom h l ∙ fields-at;
         filled = λ room rolesRoom h l. filled-is room rolesRoom h l ∙ s;
         roles = λ room rolesRoom h l. roles-is room rolesRoom h l ∙ roles-at;

@@ -15,19 +15,18 @@ use Rattle.laws.proofs.Booleans.{left-of, right-of, both-of}
 use Rattle.octets.specs.Octets.{be16}
 use Rattle.names.specs.Name.{nameOk}
 use Rattle.items.specs.Items.{Walk, walk, bodies, first, place}
-use Rattle.items.proofs.HoldLaws.{first-good}
 use Rattle.items.proofs.PlaceLaws.{stands}
 use Rattle.roles.specs.Role.{roleOk}
 use Rattle.roles.proofs.Inverse.{roles-back, roles-sheet-ok}
 use Rattle.user_items.specs.Kinds.{fourLong, versionOk, uidIn, roleOf, good54H, good50H}
 use Rattle.user_items.specs.Said.{countSaid, rolesSaid}
 use Rattle.user_items.specs.Sent.{userGood, countOk}
+use Rattle.user_items.proofs.GoodLaws.{user-filled, maximum-one, maximum-length, class-good, counts-four, roles-good, roles-said, version-good}
 use Rattle.judging.specs.Pdu.{topItems}
 use Rattle.reading.specs.Associate.{subItemsOf, rolesSheetIn}
 use Rattle.writing.specs.Cases.{rolesSize, added}
 use Rattle.sheet_room.proofs.Sizes.{sizes, sizesOf}
 use Rattle.round_trips.specs.Trips.{classOr, userRead, classGrown}
-use Rattle.round_trips.proofs.Stub.{user-filled, user-51, good-51, good-52, good-53, good-54, good-55, said-roles}
 use Rattle.round_trips.proofs.Share.{shares, first-size}
 
 -- ---- a part of a list of bytes is one
@@ -49,10 +48,6 @@ unfolding be16
 count-fits s at b = let h = b at in let l = b (at + 1) in omega arith
 
 -- ---- the bytes that each kind takes
-maximum-size : (bs : List (List ℕ)) → length bs ≡ 1 → all fourLong bs ≡ true → 8 ≤ sizes bs
-unfolding fourLong
-maximum-size bs n g = let f = first-size bs (omega arith) in let l = eqb-true (length (first bs)) 4 (first-good fourLong bs (omega arith) g) in omega arith
-
 class-size : (given : List ℕ) (bs : List (List ℕ)) → 4 + length (cond (empty bs) given (first bs)) ≤ sizes bs + cond (empty bs) (4 + length given) 0
 unfolding sizes
 class-size given [] = omega arith
@@ -92,38 +87,30 @@ unfolding sizes
 version-size [] = omega arith
 version-size (b ∷ bs) = let m = at-most (empty b) (4 + length b) in omega arith
 
--- ---- a good 50H has a maximum length
-pub user-eight : (b : List ℕ) → good50H b ≡ true → 8 ≤ length b
-unfolding sizesOf distinct among
-user-eight b g =
-    let m = maximum-size (bodies 0x51 (walk b)) (user-51 b g) (good-51 b g) in
-    let t = shares (0x51 ∷ []) refl b (user-filled b g) in
-    omega arith
-
 -- ---- what is read from a PDU whose 50H is good
 module _ (given pdu : List ℕ) (g : good50H (first (bodies 0x50 (walk (topItems pdu)))) ≡ true) where
   abbrev body : List ℕ
   body = first (bodies 0x50 (walk (topItems pdu)))
 
-  class-good : nameOk given ≡ true → nameOk (classOr given pdu) ≡ true
+  class-read : nameOk given ≡ true → nameOk (classOr given pdu) ≡ true
   unfolding classOr subItemsOf
-  class-good n = go (bodies 0x52 (walk body)) (good-52 body g)
+  class-read n = go (bodies 0x52 (walk body)) (class-good body g)
     where
       go : (bs : List (List ℕ)) → all nameOk bs ≡ true → nameOk (cond (empty bs) given (first bs)) ≡ true
       go [] q = n
       go (b ∷ bs) q = left-of _ _ q
 
-  version-good : (empty (first (bodies 0x55 (subItemsOf pdu))) || versionOk (first (bodies 0x55 (subItemsOf pdu)))) ≡ true
+  version-read : (empty (first (bodies 0x55 (subItemsOf pdu))) || versionOk (first (bodies 0x55 (subItemsOf pdu)))) ≡ true
   unfolding subItemsOf
-  version-good = go (bodies 0x55 (walk body)) (good-55 body g)
+  version-read = go (bodies 0x55 (walk body)) (version-good body g)
     where
       go : (bs : List (List ℕ)) → all versionOk bs ≡ true → (empty (first bs) || versionOk (first bs)) ≡ true
       go [] q = refl
       go (b ∷ bs) q = rw (left-of (versionOk b) _ q) (or-true (empty b))
 
-  count-good : ((i : ℕ) → getD pdu i 0 < 256) → (at : ℕ) → countOk (countSaid at (subItemsOf pdu)) ≡ true
+  count-read : ((i : ℕ) → getD pdu i 0 < 256) → (at : ℕ) → countOk (countSaid at (subItemsOf pdu)) ≡ true
   unfolding countOk countSaid subItemsOf
-  count-good b at = lt-ltb _ 65536 (go (bodies 0x53 (walk body)) (count-fits (first (bodies 0x53 (walk body))) at (first-bytes 0x53 body (first-bytes 0x50 (topItems pdu) (λ i. rw (getD-drop 74 pdu i 0) (b (74 + i)))))))
+  count-read b at = lt-ltb _ 65536 (go (bodies 0x53 (walk body)) (count-fits (first (bodies 0x53 (walk body))) at (first-bytes 0x53 body (first-bytes 0x50 (topItems pdu) (λ i. rw (getD-drop 74 pdu i 0) (b (74 + i)))))))
     where
       go : (bs : List (List ℕ)) → be16 (first bs) at < 65536 → cond (empty bs) 1 (be16 (first bs) at) < 65536
       go [] l = omega arith
@@ -133,17 +120,19 @@ module _ (given pdu : List ℕ) (g : good50H (first (bodies 0x50 (walk (topItems
   pub user-again : nameOk given ≡ true → ((i : ℕ) → getD pdu i 0 < 256) → userGood (userRead given pdu) ≡ true
   unfolding userGood rolesSheetIn subItemsOf
   user-again n b =
-      both-of _ _ (class-good n) (both-of _ _ version-good (both-of _ _ (roles-sheet-ok (rolesSaid (walk body)) (said-roles body g)) (both-of _ _ (count-good b 0) (count-good b 2))))
+      both-of _ _ (class-read n) (both-of _ _ version-read (both-of _ _ (roles-sheet-ok (rolesSaid (walk body)) (roles-said body g)) (both-of _ _ (count-read b 0) (count-read b 2))))
 
   -- what it adds to the maximum length, in eight bytes, has room where it came from
   pub user-shorter : 8 + added (userRead given pdu) ≤ length body + classGrown given pdu
   unfolding added classOr classGrown rolesSheetIn subItemsOf rolesSaid sizesOf distinct among
   user-shorter =
       let t = shares (0x51 ∷ 0x52 ∷ 0x53 ∷ 0x54 ∷ 0x55 ∷ []) refl body (user-filled body g) in
-      let m = maximum-size (bodies 0x51 (walk body)) (user-51 body g) (good-51 body g) in
+      let n = maximum-one body g in
+      let m = first-size (bodies 0x51 (walk body)) (omega arith) in
+      let l = maximum-length body g in
       let c = class-size given (bodies 0x52 (walk body)) in
-      let o = counts-size (walk body) (good-53 body g) in
-      let r = ap rolesSize (roles-back (rolesSaid (walk body)) (said-roles body g)) in
-      let s = roles-size (bodies 0x54 (walk body)) (good-54 body g) in
+      let o = counts-size (walk body) (counts-four body g) in
+      let r = ap rolesSize (roles-back (rolesSaid (walk body)) (roles-said body g)) in
+      let s = roles-size (bodies 0x54 (walk body)) (roles-good body g) in
       let v = version-size (bodies 0x55 (walk body)) in
       omega arith
