@@ -13,10 +13,10 @@ use Rattle.requests.proofs.send as send
 pub event-agrees : AgreesLent 2 event.Kinds.ps event.Kinds.r event.Reads.Post (λ κs x. now (x .1 .1 .1 .0))
 event-agrees κs args a b x y p q = (ap (λ (c : Call). c .answer) (agree p q), ap (λ (c : Call). c .out) (agree p q))
 
-pub confirm-agrees : AgreesLent 6 confirm.Kinds.ps confirm.Kinds.r confirm.Reads.Post (λ κs x. now (x .1 .1 .1 .1 .1 .1 .0))
+pub confirm-agrees : AgreesLent 9 confirm.Kinds.ps confirm.Kinds.r confirm.Reads.Post (λ κs x. now (x .1 .1 .1 .1 .1 .1 .1 .1 .1 .1 .1 .0))
 confirm-agrees κs args a b x y p q = (ap (λ (c : Call). c .answer) (agree p q), ap (λ (c : Call). c .out) (agree p q))
 
-pub accept-agrees : AgreesLent 5 accept.Kinds.ps accept.Kinds.r accept.Reads.Post (λ κs x. now (x .1 .1 .1 .1 .1 .0))
+pub accept-agrees : AgreesLent 8 accept.Kinds.ps accept.Kinds.r accept.Reads.Post (λ κs x. now (x .1 .1 .1 .1 .1 .1 .1 .1 .1 .1 .0))
 accept-agrees κs args a b x y p q = (ap (λ (c : Call). c .answer) (agree p q), ap (λ (c : Call). c .out) (agree p q))
 
 pub reject-agrees : AgreesLent 2 reject.Kinds.ps reject.Kinds.r reject.Reads.Post (λ κs x. now (x .1 .1 .1 .1 .1 .0))

@@ -5,6 +5,7 @@ use association::Brings;
 use association::Told;
 use writing::Sent;
 ghost use mathlib.Core.Path.{_≡_};
+ghost use Rattle.user_items.specs.Sent.{userOf};
 ghost use Rattle.writing.specs.Fields.{rqOf, acOf, rejectOf, itemsOf};
 ghost use Rattle.writing.specs.Form.{Wrote};
 ghost use Rattle.association.specs.Events.{carries as carriesOf, Local.plain, Local.confirm, Local.accept, Local.reject, Local.send};
@@ -109,18 +110,34 @@ pub fn confirm(
     called: &[u8],
     calling: &[u8],
     application: &[u8],
+    class_uid: &[u8],
+    version_name: &[u8],
+    invoked: u16,
+    performed: u16,
+    roles: &[u8],
     sheet: &[u8],
     gather: &[u8],
     out: &mut [u8],
 ) -> Answer
-    ensures { λ r. ⌜ call r (now (gather .entry)) (now (out .exit)) ≡ localOf a (now (gather .entry)) (now (out .entry)) (confirm (rqOf (now (called .entry)) (now (calling .entry)) (now (application .entry)) (now (sheet .entry)))) ⌝ }
+    ensures { λ r. ⌜ call r (now (gather .entry)) (now (out .exit)) ≡ localOf a (now (gather .entry)) (now (out .entry)) (confirm (rqOf (now (called .entry)) (now (calling .entry)) (now (application .entry)) (userOf (now («class_uid» .entry)) (now («version_name» .entry)) invoked performed (now (roles .entry))) (now (sheet .entry)))) ⌝ }
 {
     let action = association::local_cell(table::TRANSPORT_CONFIRM, a.state);
     let refusal = gate(a, gather, action);
     if refusal != numbers::NOT_REFUSED {
         return association::refused(refusal, a);
     }
-    let sent = writing_associate::write_request(called, calling, application, sheet, out);
+    let sent = writing_associate::write_request(
+        called,
+        calling,
+        application,
+        class_uid,
+        version_name,
+        invoked,
+        performed,
+        roles,
+        sheet,
+        out,
+    );
     finish(a, action, sent)
 }
 
@@ -129,18 +146,33 @@ pub fn accept(
     a: Assoc,
     echoed: &[u8],
     application: &[u8],
+    class_uid: &[u8],
+    version_name: &[u8],
+    invoked: u16,
+    performed: u16,
+    roles: &[u8],
     sheet: &[u8],
     gather: &[u8],
     out: &mut [u8],
 ) -> Answer
-    ensures { λ r. ⌜ call r (now (gather .entry)) (now (out .exit)) ≡ localOf a (now (gather .entry)) (now (out .entry)) (accept (acOf (now (echoed .entry)) (now (application .entry)) (now (sheet .entry)))) ⌝ }
+    ensures { λ r. ⌜ call r (now (gather .entry)) (now (out .exit)) ≡ localOf a (now (gather .entry)) (now (out .entry)) (accept (acOf (now (echoed .entry)) (now (application .entry)) (userOf (now («class_uid» .entry)) (now («version_name» .entry)) invoked performed (now (roles .entry))) (now (sheet .entry)))) ⌝ }
 {
     let action = association::local_cell(table::ACCEPT_RESPONSE, a.state);
     let refusal = gate(a, gather, action);
     if refusal != numbers::NOT_REFUSED {
         return association::refused(refusal, a);
     }
-    let sent = writing_associate::write_accept(echoed, application, sheet, out);
+    let sent = writing_associate::write_accept(
+        echoed,
+        application,
+        class_uid,
+        version_name,
+        invoked,
+        performed,
+        roles,
+        sheet,
+        out,
+    );
     finish(a, action, sent)
 }
 

@@ -9,10 +9,10 @@ use lib.ListN.{length, drop, replicate, length-append}
 use lib.Seq.{take-at, drop-append-add}
 use lib.Dec.{leb, eqb}
 use borrow.Author.Needs.{needs}
-use borrow.Author.Tests.{leb-true, eqb-true, not-false}
+use borrow.Author.Tests.{leb-true, eqb-true, not-true, not-false}
 use Rattle.laws.specs.Lists.{empty}
 use Rattle.laws.proofs.Booleans.{left-of, right-of}
-use Rattle.laws.proofs.Tests.{no-here, and-step, call-not, call-yes}
+use Rattle.laws.proofs.Tests.{deciding}
 use Rattle.numbers.specs.Lengths.{TITLE}
 use Rattle.octets.specs.Put.{put, Placed}
 use Rattle.octets.proofs.PutLaws.{put-out}
@@ -61,17 +61,28 @@ module _ (c v r : List ℕ) (i p : ℕ) (g : userGood (userOf c v i p r) ≡ tru
   version-16 [] e = omega arith
   version-16 (x ∷ v) e = leb-true _ _ (left-of _ _ (right-of (leb 1 (length (x ∷ v))) _ e))
 
-  good-fit : UserFit c v r
-  unfolding userGood roleSheetOk
+  good-fit : UserFit c v
+  unfolding userGood
   good-fit =
       record {
         class-short = name-short c (left-of _ _ g);
         version-short = version-16 v (left-of _ _ behind-class);
-        roles-whole = eqb-true _ _ (left-of _ _ (left-of (roleSheetOk r) _ (right-of (empty v || versionOk v) _ behind-class)));
       }
 
--- ---- `request_good`
-pub ruleset good-laws = (needs, no-here, and-step, call-not, call-yes)
+-- ---- `request_good`, `accept_good`: a call that tests two parts at once
+pub both-bad : (r x y z : Bool) → r ≡ (x && y) → not r ≡ true → false ≡ (x && (y && z))
+both-bad r true y z e t = sym (not-true r t) ∙ (e ∙ go y (sym e ∙ not-true r t))
+  where
+    go : (y : Bool) → y ≡ false → y ≡ (y && z)
+    go y q = rw q
+both-bad r false y z e t = refl
+
+pub both-good : (r s x y z : Bool) → r ≡ (x && y) → not r ≡ false → s ≡ z → s ≡ (x && (y && z))
+both-good r s x y z e t q =
+    let b : (x && y) ≡ true = sym e ∙ not-false r t in
+    rw (left-of x y b, right-of x y b) q
+
+pub ruleset good-laws = (needs, deciding, both-bad, both-good)
 
 -- ---- `write_request`
 module _ (t d a c v r s : List ℕ) (i p : ℕ) (b : Bool) (e : b ≡ rqGood (rqOf t d a (userOf c v i p r) s)) (z : not b ≡ false) where

@@ -3,8 +3,8 @@
 use Prim.Native.Nat.{ℕ, _+_, _%_, _≤_, _<_}
 use native.Mathlib.Omega.{arith}
 use mathlib.Core.Bool.{Bool, true, false}
-use mathlib.Core.List.{List, [], _∷_, _++_, map, append-assoc}
-use mathlib.Core.Path.{_≡_, refl, sym, ap, _∙_}
+use mathlib.Core.List.{List, [], _∷_, _++_, map}
+use mathlib.Core.Path.{_≡_, refl, ap, _∙_}
 use lib.ListN.{length, getD, length-append}
 use lib.Dec.{leb}
 use borrow.Author.Needs.{needs}
@@ -15,7 +15,6 @@ use Rattle.octets.specs.Octets.{four}
 use Rattle.octets.specs.Put.{Placed}
 use Rattle.octets.specs.Private.Put.{Put}
 use Rattle.octets.proofs.PutLaws.{next-room, next-put, placed-next}
-use Rattle.names.proofs.NameLaws.{name-short}
 use Rattle.items.specs.Wire.{itemBytes, itemsBytes}
 use Rattle.items.proofs.WireLaws.{item-length}
 use Rattle.sheets.specs.Contexts.{Context}
@@ -62,7 +61,7 @@ module _ (k : Bool) (o a c v r s : List ℕ) (i p user at : ℕ) (w : Known k a 
   abbrev u : List ℕ
   u = userBytes (userOf c v i p r)
 
-  pub known-user : UserFit c v r
+  pub known-user : UserFit c v
   known-user = w .user-fit
 
   pub known-size : user ≡ length (userBytes (userOf c v i p r))
@@ -194,6 +193,7 @@ capped-is n x e h = go (leb x LONGEST) refl
     go true q = e ∙ simp q
     go false q = let z : n ≡ LONGEST + 1 = e ∙ simp q in absurd (omega arith)
 
+-- what was measured is never more than it is, nor far above the limit
 capped-low : (n x : ℕ) → n ≡ capped x → n ≤ x
 unfolding capped
 capped-low n x e = go (leb x LONGEST) refl
@@ -211,7 +211,7 @@ capped-most n x e = go (leb x LONGEST) refl
     go false q = let z : n ≡ LONGEST + 1 = e ∙ simp q in omega arith
 
 module _ (k : Bool) (o middle a c v r s : List ℕ) (i p : ℕ) (f : Fit middle a (userOf c v i p r) s) where
-  pub fit-user : UserFit c v r
+  pub fit-user : UserFit c v
   fit-user = f .user-fit
 
   pub fit-name : length a ≤ 64
@@ -224,7 +224,6 @@ module _ (k : Bool) (o middle a c v r s : List ℕ) (i p : ℕ) (f : Fit middle 
     abbrev w-pdu : List ℕ
     w-pdu = associateBytes (pduOf k middle a (userBytes (userOf c v i p r)) s)
 
-    -- the 50H's body is no shorter than what it was measured at
     long-is : length w-pdu ≡ base a (length (userBytes (userOf c v i p r))) + length (contextBytes k false s 0) + HEADER
     long-is = pdu-long k middle a (userBytes (userOf c v i p r)) s (f .middle-long)
 

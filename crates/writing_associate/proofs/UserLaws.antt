@@ -10,7 +10,7 @@ use lib.Dec.{eqb}
 use borrow.Author.Needs.{needs}
 use borrow.Author.Tests.{eq-eqb, ne-eqb}
 use Rattle.laws.specs.Lists.{empty}
-use Rattle.numbers.specs.Lengths.{LONGEST, ROLE}
+use Rattle.numbers.specs.Lengths.{LONGEST}
 use Rattle.octets.specs.Octets.{two, four}
 use Rattle.octets.specs.Put.{Placed}
 use Rattle.octets.specs.Private.Put.{Put}
@@ -86,7 +86,7 @@ module _ (v : List ℕ) where
 pub ruleset version-size-laws = (needs, version-0, version-4)
 
 -- ---- `user_size`
-module _ (c v s : List ℕ) (f : UserFit c v s) where
+module _ (c v : List ℕ) (f : UserFit c v) where
   pub fit-class : length c ≤ 64
   fit-class = f .class-short
 
@@ -95,9 +95,6 @@ module _ (c v s : List ℕ) (f : UserFit c v s) where
 
   pub fit-version : length v ≤ 16
   fit-version = f .version-short
-
-  pub fit-roles : length s % ROLE ≡ 0
-  fit-roles = f .roles-whole
 
   pub base-small : (x y : ℕ) → x ≤ 8 → y ≤ 20 → 12 + length c + x + y ≤ LONGEST
   base-small x y h l = let k = f .class-short in omega arith
@@ -114,7 +111,7 @@ user-size c v s i p x y n d e g =
     let b = behind-long (userOf c v i p s) in
     g ∙ ap capped (omega arith)
 
-pub ruleset user-size-laws = (needs, fit-class, fit-version, fit-roles, base-small, user-size)
+pub ruleset user-size-laws = (needs, fit-class, fit-version, base-small, user-size)
 
 -- ---- `put_counts`, `put_version`
 module _ (o : List ℕ) (at i p : ℕ) (b : Bool) (e : b ≡ (eqb i 1 && eqb p 1)) where
@@ -178,7 +175,7 @@ module _ (o c v r : List ℕ) (at i p : ℕ) (h : at + length (behind51H (userOf
             (both-put o₁ (countBytes i p) behind-53 a room-52 o₂ b t o₄ g
             (both-put o₂ (rolesFrom r 0) (versionBytes v) b room-53 o₃ d w o₄ g x))
 
-pub ruleset behind-laws = (needs, class-item, fit-version, fit-roles, class-room, counts-fit, roles-fit, version-fit, behind-put)
+pub ruleset behind-laws = (needs, class-item, fit-version, class-room, counts-fit, roles-fit, version-fit, behind-put)
 
 -- ---- `put_user`
 abbrev head : ℕ → List ℕ

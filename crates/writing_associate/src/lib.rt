@@ -6,10 +6,12 @@ mod role_items;
 mod user;
 
 ghost use mathlib.Core.Path.{_≡_};
+ghost use mathlib.Core.Bool.{_&&_};
 ghost use mathlib.Core.List.{_++_};
 ghost use lib.ListN.{length, replicate};
 ghost use Rattle.numbers.specs.Lengths.{TITLE};
-ghost use Rattle.user_items.specs.Sent.{userOf};
+ghost use Rattle.names.specs.Name.{nameOk};
+ghost use Rattle.user_items.specs.Sent.{userOf, userGood};
 ghost use Rattle.writing.specs.Fields.{rqOf, acOf, rqGood, acGood};
 ghost use Rattle.writing.specs.Form.{rqForm, acForm, Wrote};
 use crate::pdu::write_pdu;
@@ -24,6 +26,23 @@ fn titles_of(called: &[u8], calling: &[u8]) -> [u8; 64]
     octets::put(&mut m, 0, called);
     octets::put(&mut m, numbers::TITLE, calling);
     m
+}
+
+// What an RQ and an AC both carry beside their contexts: the application name and the user information.
+fn parts_good(
+    application: &[u8],
+    class_uid: &[u8],
+    version_name: &[u8],
+    invoked: u16,
+    performed: u16,
+    roles: &[u8],
+) -> bool
+    ensures { λ r. ⌜ r ≡ (nameOk (now (application .entry)) && userGood (userOf (now («class_uid» .entry)) (now («version_name» .entry)) invoked performed (now (roles .entry)))) ⌝ }
+{
+    if !names::name_ok(application) {
+        return false;
+    }
+    user_items::user_good(class_uid, version_name, invoked, performed, roles)
 }
 
 fn request_good(
@@ -45,10 +64,14 @@ fn request_good(
     if !titles::title_ok(calling) {
         return false;
     }
-    if !names::name_ok(application) {
-        return false;
-    }
-    if !user_items::user_good(class_uid, version_name, invoked, performed, roles) {
+    if !parts_good(
+        application,
+        class_uid,
+        version_name,
+        invoked,
+        performed,
+        roles,
+    ) {
         return false;
     }
     sheets::proposal_ok(sheet)
@@ -115,10 +138,14 @@ fn accept_good(
     if echoed.len() != 64 {
         return false;
     }
-    if !names::name_ok(application) {
-        return false;
-    }
-    if !user_items::user_good(class_uid, version_name, invoked, performed, roles) {
+    if !parts_good(
+        application,
+        class_uid,
+        version_name,
+        invoked,
+        performed,
+        roles,
+    ) {
         return false;
     }
     sheets::answers_ok(sheet)

@@ -1,6 +1,6 @@
 // The 54H items of a role sheet: measured, and written a record at a time.
 ghost use mathlib.Core.Path.{_≡_};
-ghost use Prim.Native.Nat.{_+_, _%_, _≤_};
+ghost use Prim.Native.Nat.{_+_, _≤_};
 ghost use lib.ListN.{length};
 ghost use Rattle.numbers.specs.Lengths.{LONGEST, ROLE};
 ghost use Rattle.octets.specs.Private.Put.{Put};
@@ -16,12 +16,12 @@ fn role_size(s: &[u8], at: usize) -> usize
 
 // The bytes of `base` and of the sheet's 54H items. Any number above the limit gives 16,385, so no sum wraps.
 pub(crate) fn roles_size(s: &[u8], base: usize) -> usize
-    requires { ⌜ (length (now s) % ROLE ≡ 0) × (base ≤ LONGEST) ⌝ }
+    requires { ⌜ base ≤ LONGEST ⌝ }
     ensures { λ n. ⌜ n ≡ capped (base + length (rolesFrom (now (s .entry)) 0)) ⌝ }
 {
     let mut n = base;
     let mut at = 0;
-    while at < s.len() {
+    while numbers::ROLE <= s.len() - at {
         n += role_size(s, at);
         if numbers::LONGEST < n {
             return numbers::LONGEST + 1;
@@ -55,12 +55,12 @@ fn put_role(out: &mut [u8], n: usize, s: &[u8], at: usize) -> usize
 
 // The sheet's 54H items.
 pub(crate) fn put_roles(out: &mut [u8], from: usize, s: &[u8]) -> usize
-    requires { ⌜ (length (now s) % ROLE ≡ 0) × (from + length (rolesFrom (now s) 0) ≤ length (now out)) ⌝ }
+    requires { ⌜ from + length (rolesFrom (now s) 0) ≤ length (now out) ⌝ }
     ensures { λ r. ⌜ Put (now (out .entry)) from (rolesFrom (now (s .entry)) 0) r (now (out .exit)) ⌝ }
 {
     let mut n = from;
     let mut at = 0;
-    while at < s.len() {
+    while s.len() - at >= numbers::ROLE {
         n = put_role(out, n, s, at);
         at += numbers::ROLE;
     }

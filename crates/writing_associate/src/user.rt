@@ -2,9 +2,9 @@
 ghost use mathlib.Core.Path.{_≡_};
 ghost use mathlib.Core.Bool.{_&&_};
 ghost use lib.Dec.{eqb};
-ghost use Prim.Native.Nat.{_+_, _%_, _≤_};
+ghost use Prim.Native.Nat.{_+_, _≤_};
 ghost use lib.ListN.{length};
-ghost use Rattle.numbers.specs.Lengths.{LONGEST, ROLE};
+ghost use Rattle.numbers.specs.Lengths.{LONGEST};
 ghost use Rattle.octets.specs.Private.Put.{Put};
 ghost use Rattle.items.specs.Wire.{itemBytes};
 ghost use Rattle.user_items.specs.Sent.{userOf, userBytes};
@@ -51,7 +51,7 @@ pub(crate) fn user_size(
     performed: u16,
     roles: &[u8],
 ) -> usize
-    requires { ⌜ UserFit (now «class_uid») (now «version_name») (now roles) ⌝ }
+    requires { ⌜ UserFit (now «class_uid») (now «version_name») ⌝ }
     ensures { λ n. ⌜ n ≡ capped (length (userBytes (userOf (now («class_uid» .entry)) (now («version_name» .entry)) invoked performed (now (roles .entry))))) ⌝ }
 {
     let base = 12 + class_uid.len() + counts_size(invoked, performed) + version_size(version_name);
@@ -91,7 +91,7 @@ fn put_behind_51(
     performed: u16,
     roles: &[u8],
 ) -> usize
-    requires { ⌜ (UserFit (now «class_uid») (now «version_name») (now roles)) × (at + length (behind51H (userOf (now «class_uid») (now «version_name») invoked performed (now roles))) ≤ length (now out)) ⌝ }
+    requires { ⌜ (UserFit (now «class_uid») (now «version_name»)) × (at + length (behind51H (userOf (now «class_uid») (now «version_name») invoked performed (now roles))) ≤ length (now out)) ⌝ }
     ensures { λ r. ⌜ Put (now (out .entry)) at (behind51H (userOf (now («class_uid» .entry)) (now («version_name» .entry)) invoked performed (now (roles .entry)))) r (now (out .exit)) ⌝ }
 {
     let a = put_item(out, at, 0x52, class_uid);
@@ -111,7 +111,7 @@ pub(crate) fn put_user(
     performed: u16,
     roles: &[u8],
 ) -> usize
-    requires { ⌜ (UserFit (now «class_uid») (now «version_name») (now roles)) × (n ≡ length (userBytes (userOf (now «class_uid») (now «version_name») invoked performed (now roles)))) × (n ≤ LONGEST) × (at + 4 + n ≤ length (now out)) ⌝ }
+    requires { ⌜ (UserFit (now «class_uid») (now «version_name»)) × (n ≡ length (userBytes (userOf (now «class_uid») (now «version_name») invoked performed (now roles)))) × (n ≤ LONGEST) × (at + 4 + n ≤ length (now out)) ⌝ }
     ensures { λ r. ⌜ Put (now (out .entry)) at (itemBytes 0x50 (userBytes (userOf (now («class_uid» .entry)) (now («version_name» .entry)) invoked performed (now (roles .entry))))) r (now (out .exit)) ⌝ }
 {
     let head = [

@@ -11,6 +11,5 @@ request-good-spec =
     tie.close
     (tie.spec
     (λ c κs. search good-laws) (λ c. search good-laws) (λ c κs. search good-laws)  -- title-ok-requires, returns, title-ok-requires-2
-    (λ c. search good-laws) (λ c κs. search good-laws) (λ c. search good-laws)  -- returns-2, name-ok-requires, returns-3
-    (λ c κs. search good-laws) (λ c. search good-laws) (λ c κs. search good-laws)  -- user-good-requires, returns-4, proposal-ok-requires
-    (λ c. search good-laws))  -- returns-5
+    (λ c. search good-laws) (λ c κs. search good-laws) (λ c. search good-laws)  -- returns-2, parts-good-requires, returns-3
+    (λ c κs. search good-laws) (λ c. search good-laws))  -- proposal-ok-requires, returns-4

@@ -44,12 +44,12 @@ fixedPart kind n middle = kind ∷ 0 ∷ (four n ++ (0 ∷ 1 ∷ 0 ∷ 0 ∷ mid
 pub record Fit (middle application : List ℕ) (u : User) (sheet : List ℕ) : Type 0 where
   pub middle-long : length middle ≡ 64
   pub name-short : length application ≤ 64
-  pub user-fit : UserFit (u .class) (u .version) (u .roles)
+  pub user-fit : UserFit (u .class) (u .version)
   pub whole : length sheet % RECORD ≡ 0
 
 -- when the items are written from place `at` of an output that has so much space, with the length of the 50H's body
 pub record Known (answer : Bool) (application : List ℕ) (u : User) (sheet : List ℕ) (user at space : ℕ) : Type 0 where
-  pub user-fit : UserFit (u .class) (u .version) (u .roles)
+  pub user-fit : UserFit (u .class) (u .version)
   pub whole : length sheet % RECORD ≡ 0
   pub user-size : user ≡ length (userBytes u)
   pub limit : length (itemPart answer application (userBytes u) sheet) ≤ LONGEST

@@ -1,12 +1,10 @@
 -- For the private functions: the user information as it is measured and written.
-use Prim.Native.Nat.{ℕ, _%_, _≤_}
-use mathlib.Core.Path.{_≡_}
+use Prim.Native.Nat.{ℕ, _≤_}
 use mathlib.Core.Bool.{_&&_, cond}
 use mathlib.Core.List.{List, [], _++_}
 use lib.ListN.{length}
 use lib.Dec.{eqb}
 use Rattle.laws.specs.Lists.{empty}
-use Rattle.numbers.specs.Lengths.{ROLE}
 use Rattle.octets.specs.Octets.{two}
 use Rattle.items.specs.Wire.{itemBytes}
 use Rattle.user_items.specs.Sent.{User}
@@ -24,7 +22,6 @@ abbrev pub behind51H : User → List ℕ
 behind51H u = itemBytes 0x52 (u .class) ++ (countBytes (u .invoked) (u .performed) ++ (rolesFrom (u .roles) 0 ++ versionBytes (u .version)))
 
 -- what is known of it when it is measured
-pub record UserFit (class version roles : List ℕ) : Type 0 where
+pub record UserFit (class version : List ℕ) : Type 0 where
   pub class-short : length class ≤ 64
   pub version-short : length version ≤ 16
-  pub roles-whole : length roles % ROLE ≡ 0

@@ -18,6 +18,6 @@ put-roles-spec =
     (tie.spec
     Inv-loop
     μ-loop
-    (λ c. search put-roles-laws) (λ c κs. search put-roles-laws) (λ c. search put-roles-laws)  -- loop-holds, put-role-requires, add-at
-    (λ c. search put-roles-laws) (λ c. search put-roles-laws) (λ c. search put-roles-laws)  -- loop-less, loop-again, same-length
-    (λ c. search put-roles-laws))  -- returns
+    (λ c. search put-roles-laws) (λ c. search put-roles-laws) (λ c κs. search put-roles-laws)  -- loop-holds, sub-loop, put-role-requires
+    (λ c. search put-roles-laws) (λ c. search put-roles-laws) (λ c. search put-roles-laws)  -- add-at, loop-less, loop-again
+    (λ c. search put-roles-laws) (λ c. search put-roles-laws))  -- same-length, returns
