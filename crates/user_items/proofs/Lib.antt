@@ -6,4 +6,5 @@ pub mod RoleLaws
 pub mod GoodLaws
 pub mod Exactly
 pub mod SentLaws
+pub mod Examples
 pub mod Agree

@@ -6,6 +6,12 @@ use crate::body::role_good;
 use crate::body::uid_in;
 use crate::body::version_ok;
 
+// A number of four bytes.
+const MAXIMUM: usize = 4;
+
+// Two numbers of two bytes.
+const COUNTS: usize = 4;
+
 pub(crate) fn known(t: u8) -> bool
     ensures { λ r. ⌜ r ≡ knownIn userKinds t ⌝ }
 {
@@ -20,13 +26,13 @@ pub(crate) fn body_good(t: u8, b: &[u8]) -> bool
     ensures { λ r. ⌜ r ≡ goodIn userKinds t (now (b .entry)) ⌝ }
 {
     if t == 0x51 {
-        return b.len() == 4;
+        return b.len() == MAXIMUM;
     }
     if t == 0x52 {
         return names::name_ok(b);
     }
     if t == 0x53 {
-        return b.len() == 4;
+        return b.len() == COUNTS;
     }
     if t == 0x54 {
         return role_good(b);

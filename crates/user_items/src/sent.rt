@@ -6,7 +6,7 @@ ghost use Rattle.user_items.specs.Kinds.{versionOk};
 ghost use Rattle.user_items.specs.Sent.{userOf, userGood};
 use crate::body::version_ok;
 
-// No version name, or a good one.
+// Whether v is empty or a version name.
 fn version_good(v: &[u8]) -> bool
     ensures { λ r. ⌜ r ≡ (empty (now (v .entry)) || versionOk (now (v .entry))) ⌝ }
 {
@@ -16,7 +16,7 @@ fn version_good(v: &[u8]) -> bool
     version_ok(v)
 }
 
-// Any counts are good.
+// Whether this may be sent: the class UID is a name, the version name is good where there is one, and so is the role sheet. Any counts are.
 pub fn user_good(
     class_uid: &[u8],
     version_name: &[u8],

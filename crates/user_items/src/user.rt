@@ -25,16 +25,16 @@ fn same_at(t: u8, x: &[u8], s: &[u8], at: usize, e: usize) -> bool
 fn comes_from(t: u8, x: &[u8], s: &[u8], from: usize) -> bool
     ensures { λ r. ⌜ r ≡ comes (onceIn userKinds t) t (now (x .entry)) (walk (drop from (now (s .entry)))) ⌝ }
 {
-    let mut at = from;
-    while at < s.len() {
-        let e = items::item_end(s, at);
-        if e == 0 {
+    let mut j = from;
+    while j < s.len() {
+        let f = items::item_end(s, j);
+        if f == 0 {
             return false;
         }
-        if same_at(t, x, s, at, e) {
+        if same_at(t, x, s, j, f) {
             return true;
         }
-        at = e;
+        j = f;
     }
     false
 }

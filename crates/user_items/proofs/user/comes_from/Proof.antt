@@ -10,10 +10,10 @@ use Rattle.user_items.proofs.user.comes_from.Statement.{statement}
 use Rattle.user_items.proofs.user.comes_from.Tie as tie
 
 abbrev Inv-loop : tie.InvT-loop
-Inv-loop t x s from at₀ at = comes (onceIn userKinds t) t x (walk (drop from s)) ≡ comes (onceIn userKinds t) t x (walk (drop at s))
+Inv-loop t x s from j₀ j = comes (onceIn userKinds t) t x (walk (drop from s)) ≡ comes (onceIn userKinds t) t x (walk (drop j s))
 
 abbrev μ-loop : tie.MeasureT-loop
-μ-loop t x s from at₀ at = length s - at
+μ-loop t x s from j₀ j = length s - j
 
 pub comes-from-spec : {M : Type 1} → statement M
 comes-from-spec =
