@@ -15,6 +15,7 @@ use Rattle.items.specs.Items.{Walk, walk, filled, bodies, first, goodBodies}
 use Rattle.items.proofs.HoldLaws.{first-good, held-filled, held-good}
 use Rattle.numbers.specs.Results.{ACCEPTED}
 use Rattle.octets.specs.Octets.{odd}
+use Rattle.user_items.specs.Kinds.{good50H}
 use Rattle.contents.specs.Contents.{topKnown, answerKnown, named, one, subsOk, good20H, transferItemOk, good21H, contextGood, topGood, topOk, ids, itemsOk}
 use Rattle.contents.proofs.Meaning.{Sub, subs-some, subs-hold, sub-counts, Top, top-some, top-holds, top-counts}
 
@@ -133,3 +134,12 @@ items-20 s g = items-good 0x20 s g 0x20 refl
 pub items-21 : (s : List ℕ) → itemsOk 0x21 s ≡ true → all good21H (bodies 0x21 (walk s)) ≡ true
 unfolding topGood contextGood among
 items-21 s g = items-good 0x21 s g 0x21 refl
+
+-- the one 50H, with k for the type of a context
+pub items-50 : (k : ℕ) (s : List ℕ) → itemsOk k s ≡ true → eqb k 0x10 ≡ false → eqb k 0x50 ≡ false → eqb 0x50 k ≡ false → good50H (first (bodies 0x50 (walk s))) ≡ true
+unfolding topGood among
+items-50 k s g a b c =
+    let n = items-counts k s g a b .users in
+    let o : all (topGood k 0x50) (bodies 0x50 (walk s)) ≡ true = items-good k s g 0x50 (rw c) in
+    let r : topGood k 0x50 (first (bodies 0x50 (walk s))) ≡ true = first-good (topGood k 0x50) (bodies 0x50 (walk s)) (omega arith) o in
+    rw c at r

@@ -4,20 +4,19 @@ use Prim.Native.Nat.{ℕ}
 use mathlib.Core.List.{List, [], _∷_, _++_}
 use mathlib.Core.Path.{_≡_, refl}
 use lib.ListN.{length, replicate}
-use Rattle.laws.specs.Lists.{among, distinct}
 use Rattle.laws.specs.Text.{bytes}
 use Rattle.numbers.specs.Kinds.{ASSOCIATE-RQ, ASSOCIATE-AC, DATA-TF}
-use Rattle.octets.specs.Octets.{four, be16, be32}
-use Rattle.names.specs.Name.{nameOk}
-use Rattle.titles.specs.Title.{titleOk}
-use Rattle.items.specs.Items.{step, walkIn, walk, filled, bodies, place, types, only, goodBodies, holds}
+use Rattle.octets.specs.Octets.{two, four, be16, be32}
+use Rattle.items.specs.Items.{place}
 use Rattle.items.specs.Wire.{itemBytes}
-use Rattle.contents.specs.Contents.{subsOk, good20H, one, transferItemOk, good21H, userGood, good50H, contextGood, topGood, topOk, ids, itemsOk, maximumIn}
-use Rattle.pdvs.specs.Data.{pdvStep, pdvsIn, pdvs, pdvOk, pdvsOk}
-use Rattle.reasons.specs.Values.{rejectReasons, rejectOk, abortOk}
-use Rattle.judging.specs.Pdu.{whole, requestOk, acceptOk, rejectPduOk, dataOk, abortPduOk, validAs, kindOf, maximumOf}
+use Rattle.judging.specs.Pdu.{kindOf}
+use Rattle.judging.proofs.Examples.{judging-open}
 use Rattle.sheets.specs.Sheet.{recordBytes, contextRecords, sheetOf, answerSheetOf}
-use Rattle.reading.specs.Associate.{contextOf, transferIn, answerOf, proposed, answered, applicationOf, applicationAt, sheetIn, associateOf, filling}
+use Rattle.roles.specs.Role.{Role}
+use Rattle.roles.specs.Sheet.{roleBytes, roleSheet}
+use Rattle.user_items.specs.Said.{countSaid, rolesSaid}
+use Rattle.user_items.specs.Sent.{roleBody}
+use Rattle.reading.specs.Associate.{contextOf, transferIn, answerOf, proposed, answered, applicationOf, applicationAt, subItemsOf, subItemsAt, subItemAt, subItemLen, sheetIn, rolesSheetIn, refused, associateOf, filling, rolesFilling}
 use Rattle.reading.specs.Data.{pdvsOf, pdv, startOf, noData, dataOf, fragmentOf, pdvStands, dataAt, placeAfter}
 use Rattle.reading.specs.Values.{rejectIn, abortIn}
 
@@ -27,7 +26,7 @@ two-pdvs = 4 ∷ 0 ∷ (four 15 ++ (0 ∷ 0 ∷ 0 ∷ 5 ∷ 1 ∷ 0xFC ∷ 7 ∷
 
 -- what the examples unfold to compute with it
 data-kind : kindOf two-pdvs ≡ DATA-TF
-unfolding kindOf validAs whole dataOk pdvStep pdvsIn pdvs pdvOk pdvsOk be16 be32
+unfolding judging-open
 data-kind = refl
 
 -- the first fragment starts at 12; the control byte is as received
@@ -76,18 +75,18 @@ any-type = refl
 
 -- ---- an ABORT of source 0 with reason 9 is read; one of source 1 is refused, and so is an RJ
 pub abort-nine : abortIn (7 ∷ 0 ∷ 0 ∷ 0 ∷ 0 ∷ 4 ∷ 0 ∷ 0 ∷ 0 ∷ 9 ∷ []) ≡ record { refusal = 0; source = 0; reason = 9 }
-unfolding abortIn kindOf validAs whole abortPduOk abortOk among be16 be32
+unfolding judging-open abortIn
 abort-nine = refl
 
 pub abort-one : abortIn (7 ∷ 0 ∷ 0 ∷ 0 ∷ 0 ∷ 4 ∷ 0 ∷ 0 ∷ 1 ∷ 0 ∷ []) ≡ record { refusal = 7; source = 0; reason = 0 }
-unfolding abortIn kindOf validAs whole abortPduOk abortOk among be16 be32
+unfolding judging-open abortIn
 abort-one = refl
 
 pub reject-version : rejectIn (3 ∷ 0 ∷ 0 ∷ 0 ∷ 0 ∷ 4 ∷ 0xFF ∷ 1 ∷ 2 ∷ 2 ∷ []) ≡ record { refusal = 0; result = 1; source = 2; reason = 2 }
-unfolding rejectIn kindOf validAs whole rejectPduOk rejectReasons rejectOk among be16 be32
+unfolding judging-open rejectIn
 reject-version = refl
 
--- ---- an RQ with a skipped item in front, and one context with two transfer syntaxes
+-- ---- an RQ with a skipped item in front, one context with two transfer syntaxes, and these sub-items in its 50H
 abbrev implicit : List ℕ
 implicit = bytes "1.2.840.10008.1.2"
 
@@ -97,42 +96,123 @@ explicit = bytes "1.2.840.10008.1.2.1"
 abbrev verification : List ℕ
 verification = bytes "1.2.840.10008.1.1"
 
-abbrev items : List ℕ
-items =
+abbrev items : List ℕ → List ℕ
+items subs =
     itemBytes 0xF0 (1 ∷ 2 ∷ [])
     ++ (itemBytes 0x10 (bytes "1.2.840.10008.3.1.1.1")
     ++ (itemBytes 0x20 (5 ∷ 0 ∷ 0 ∷ 0 ∷ (itemBytes 0x30 verification ++ (itemBytes 0x40 implicit ++ itemBytes 0x40 explicit)))
-    ++ itemBytes 0x50 (itemBytes 0x51 (0 ∷ 0 ∷ 0x80 ∷ 0 ∷ []))))
+    ++ itemBytes 0x50 subs))
 
-abbrev body : List ℕ
-body = 0 ∷ 3 ∷ 0 ∷ 0 ∷ (bytes "STORE-EXOTIC    " ++ (bytes "STORE-EQUINE    " ++ (replicate 32 0 ++ items)))
+abbrev body : List ℕ → List ℕ
+body subs = 0 ∷ 3 ∷ 0 ∷ 0 ∷ (bytes "STORE-EXOTIC    " ++ (bytes "STORE-EQUINE    " ++ (replicate 32 0 ++ items subs)))
 
+abbrev requestWith : List ℕ → List ℕ
+requestWith subs = 1 ∷ 0 ∷ (four (length (body subs)) ++ body subs)
+
+abbrev maximum : List ℕ
+maximum = itemBytes 0x51 (0 ∷ 0 ∷ 0x80 ∷ 0 ∷ [])
+
+-- with a 51H alone
 abbrev request : List ℕ
-request = 1 ∷ 0 ∷ (four (length body) ++ body)
+request = requestWith maximum
 
 request-kind : kindOf request ≡ ASSOCIATE-RQ
-unfolding kindOf validAs whole requestOk subsOk good20H one userGood good50H contextGood topGood topOk ids itemsOk step walkIn walk filled bodies types only goodBodies holds itemBytes nameOk titleOk be16 be32 among distinct
+unfolding judging-open
 request-kind = refl
 
 -- its contexts as records
 request-sheet : sheetIn ASSOCIATE-RQ request ≡ recordBytes 5 0 verification implicit ++ recordBytes 5 0 verification explicit
-unfolding request-kind sheetIn proposed contextOf contextRecords sheetOf recordBytes
+unfolding judging-open sheetIn proposed contextOf contextRecords sheetOf recordBytes
 request-sheet = refl
 
-pub request-read : associateOf 1 request 300 ≡ record { refusal = 0; version = 3; «application_at» = 84; «application_len» = 21; maximum = 32768; records = 2 }
-unfolding request-sheet associateOf applicationOf applicationAt maximumOf maximumIn place
+-- no class UID, no version name, 1 and 1 operations, no role: a role sheet of no byte is enough
+pub request-read : associateOf 1 request 300 0
+    ≡ record {
+      refusal = 0;
+      version = 3;
+      «application_at» = 84;
+      «application_len» = 21;
+      maximum = 32768;
+      records = 2;
+      «class_at» = 0;
+      «class_len» = 0;
+      «version_name_at» = 0;
+      «version_name_len» = 0;
+      invoked = 1;
+      performed = 1;
+      roles = 0;
+    }
+unfolding request-sheet associateOf applicationOf applicationAt place rolesSheetIn rolesSaid subItemsOf subItemAt subItemLen countSaid roleSheet
 request-read = refl
 
-pub request-filled : filling 1 request 300 ≡ recordBytes 5 0 verification implicit ++ recordBytes 5 0 verification explicit
-unfolding request-sheet filling
+pub request-filled : filling 1 request 300 0 ≡ recordBytes 5 0 verification implicit ++ recordBytes 5 0 verification explicit
+unfolding request-sheet filling rolesSheetIn rolesSaid subItemsOf roleSheet
 request-filled = refl
 
--- one byte too little room: 2, and not the number needed
-pub request-narrow : associateOf 1 request 263 ≡ record { refusal = 2; version = 0; «application_at» = 0; «application_len» = 0; maximum = 0; records = 0 }
-unfolding request-sheet associateOf
-request-narrow = refl
+-- ---- with all sub-items, the 55H first and the 52H last
+abbrev exotic : Role
+exotic = record { uid = bytes "1.3"; scu = 0; scp = 1 }
 
--- ---- an AC with an accepted context, one that is refused with a name, one with no byte behind its four, and one with a sub-item that passes the end
+abbrev equine : Role
+equine = record { uid = bytes "1.2"; scu = 1; scp = 0 }
+
+abbrev roleOne : Role → List ℕ
+roleOne r = itemBytes 0x54 (roleBody r)
+
+abbrev told : List ℕ
+told =
+    requestWith
+    (itemBytes 0x55 (bytes "FEO 1")
+    ++ (roleOne exotic
+    ++ (maximum
+    ++ (roleOne equine
+    ++ (itemBytes 0x53 (two 2 ++ two 65535)
+    ++ itemBytes 0x52 (bytes "1.2.3"))))))
+
+told-sheets : (length (sheetIn ASSOCIATE-RQ told) ≡ 264) × (rolesSheetIn told ≡ roleBytes exotic ++ roleBytes equine)
+unfolding request-sheet rolesSheetIn rolesSaid subItemsOf roleBody roleSheet roleBytes
+told-sheets = (refl, refl)
+
+-- the room is just enough
+pub told-read : associateOf 1 told 264 136
+    ≡ record {
+      refusal = 0;
+      version = 3;
+      «application_at» = 84;
+      «application_len» = 21;
+      maximum = 32768;
+      records = 2;
+      «class_at» = 233;
+      «class_len» = 5;
+      «version_name_at» = 186;
+      «version_name_len» = 5;
+      invoked = 2;
+      performed = 65535;
+      roles = 2;
+    }
+unfolding told-sheets associateOf applicationOf applicationAt place subItemsAt subItemAt subItemLen countSaid
+told-read = refl
+
+-- the roles in the order of the PDU
+pub told-filled : (filling 1 told 264 136 ≡ recordBytes 5 0 verification implicit ++ recordBytes 5 0 verification explicit) × (rolesFilling 1 told 264 136 ≡ roleBytes exotic ++ roleBytes equine)
+unfolding told-sheets filling rolesFilling
+told-filled = (refl, refl)
+
+-- one byte too little room in either: 2, not the number needed, and nothing in the other
+pub told-narrow : (associateOf 1 told 263 136 ≡ refused 2) × (rolesFilling 1 told 263 136 ≡ [])
+unfolding told-sheets associateOf rolesFilling
+told-narrow = (refl, refl)
+
+pub told-few : (associateOf 1 told 264 135 ≡ refused 2) × (filling 1 told 264 135 ≡ [])
+unfolding told-sheets associateOf filling
+told-few = (refl, refl)
+
+-- a second 52H: no valid RQ, whatever the room
+pub class-twice : associateOf 1 (requestWith (maximum ++ (itemBytes 0x52 (bytes "1.2") ++ itemBytes 0x52 (bytes "1.2")))) 0 0 ≡ refused 7
+unfolding judging-open associateOf
+class-twice = refl
+
+-- ---- an AC with an accepted context, one that is refused with a name, one with no byte behind its four, one with a sub-item that passes the end; and a role
 abbrev answer-items : List ℕ
 answer-items =
     itemBytes 0x10 (bytes "1.2.840.10008.3.1.1.1")
@@ -140,7 +220,7 @@ answer-items =
     ++ (itemBytes 0x21 (3 ∷ 0xFF ∷ 3 ∷ 0xFF ∷ itemBytes 0x40 implicit)
     ++ (itemBytes 0x21 (5 ∷ 0xFF ∷ 1 ∷ 0xFF ∷ [])
     ++ (itemBytes 0x21 (7 ∷ 0xFF ∷ 4 ∷ 0xFF ∷ 0x40 ∷ 0 ∷ 0xFF ∷ 0xFF ∷ [])
-    ++ itemBytes 0x50 (itemBytes 0x51 (0 ∷ 0 ∷ 0x80 ∷ 0 ∷ []))))))
+    ++ itemBytes 0x50 (maximum ++ roleOne equine)))))
 
 abbrev accept-body : List ℕ
 accept-body = 0 ∷ 1 ∷ 0 ∷ 0 ∷ (replicate 64 0 ++ answer-items)
@@ -149,10 +229,10 @@ abbrev accept : List ℕ
 accept = 2 ∷ 0 ∷ (four (length accept-body) ++ accept-body)
 
 accept-kind : kindOf accept ≡ ASSOCIATE-AC
-unfolding kindOf validAs whole acceptOk one transferItemOk good21H userGood good50H contextGood topGood topOk ids itemsOk step walkIn walk filled bodies types only goodBodies holds itemBytes nameOk be16 be32 among distinct
+unfolding judging-open roleBody
 accept-kind = refl
 
 -- each refused one with no name
-pub accept-filled : filling 2 accept 528 ≡ recordBytes 1 0 [] implicit ++ (recordBytes 3 3 [] [] ++ (recordBytes 5 1 [] [] ++ recordBytes 7 4 [] []))
-unfolding accept-kind filling sheetIn answered answerOf transferIn answerSheetOf recordBytes
-accept-filled = refl
+pub accept-filled : (filling 2 accept 528 68 ≡ recordBytes 1 0 [] implicit ++ (recordBytes 3 3 [] [] ++ (recordBytes 5 1 [] [] ++ recordBytes 7 4 [] []))) × (rolesFilling 2 accept 528 68 ≡ roleBytes equine)
+unfolding accept-kind filling rolesFilling sheetIn answered answerOf transferIn answerSheetOf recordBytes rolesSheetIn rolesSaid subItemsOf roleSheet roleBytes
+accept-filled = (refl, refl)

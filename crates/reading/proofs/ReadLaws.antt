@@ -11,7 +11,7 @@ use borrow.Author.Needs.{needs}
 use mir.Val.{Fits}
 use mir.Syntax.{w64}
 use borrow.Author.Tests.{lt-ltb, le-ltb, eq-eqb, ne-eqb, eqb-true, eqb-false}
-use Rattle.laws.specs.Lists.{all, empty, among}
+use Rattle.laws.specs.Lists.{all, empty}
 use Rattle.laws.proofs.Booleans.{left-of, right-of}
 use Rattle.laws.proofs.Places.{part-tail}
 use Rattle.numbers.specs.Results.{ACCEPTED}
@@ -22,10 +22,9 @@ use Rattle.octets.proofs.PutLaws.{put-front}
 use Rattle.names.specs.Name.{nameOk}
 use Rattle.names.proofs.NameLaws.{name-short}
 use Rattle.items.specs.Items.{walk, bodies, first, place}
-use Rattle.items.proofs.HoldLaws.{first-good}
 use Rattle.items.proofs.PlaceLaws.{stands}
-use Rattle.contents.specs.Contents.{good20H, good21H, topGood, itemsOk, maximumIn}
-use Rattle.contents.proofs.GoodLaws.{abstract-name, transfer-names, transfer-name, items-good, items-counts, items-20, items-21}
+use Rattle.contents.specs.Contents.{good20H, good21H, maximumIn}
+use Rattle.contents.proofs.GoodLaws.{abstract-name, transfer-names, transfer-name, items-20, items-21, items-50}
 use Rattle.judging.specs.Pdu.{kindOf, maximumOf}
 use Rattle.judging.proofs.KindLaws.{request-long, accept-long, request-items, accept-items}
 use Rattle.sheets.specs.Contexts.{transferNameOk}
@@ -96,40 +95,30 @@ module _ (x : List ℕ) where
   unfolding fieldsWith maximumOf
   accept-fields n m e h l = rw (h, l, e)
 
--- the one 50H
-items-50 : (k : ℕ) (s : List ℕ) → itemsOk k s ≡ true → eqb k 0x10 ≡ false → eqb k 0x50 ≡ false → eqb 0x50 k ≡ false → good50H (first (bodies 0x50 (walk s))) ≡ true
-unfolding topGood among
-items-50 k s g a b c =
-    let n = items-counts k s g a b .users in
-    let o : all (topGood k 0x50) (bodies 0x50 (walk s)) ≡ true = items-good k s g 0x50 (rw c) in
-    let r : topGood k 0x50 (first (bodies 0x50 (walk s))) ≡ true = first-good (topGood k 0x50) (bodies 0x50 (walk s)) (omega arith) o in
-    rw c at r
+-- ---- both kinds as one: what holds of 1 and of 2
+pub either : (kind : ℕ) → 1 ≤ kind → kind ≤ 2 → (P : ℕ → Type 0) → P 1 → P 2 → P kind
+either kind a b P p q = go (eqb kind 1) refl
+  where
+    go : (d : Bool) → eqb kind 1 ≡ d → P kind
+    go true e = let z : kind ≡ 1 = eqb-true _ _ e in rw z p
+    go false e = let n : (kind ≡ 1 → ⊥) = eqb-false kind 1 e in let z : kind ≡ 2 = omega arith in rw z q
 
--- ---- both kinds as one
 module _ (x : List ℕ) (kind : ℕ) (a : 1 ≤ kind) (b : kind ≤ 2) where
-  -- what holds of 1 and of 2
-  either : (P : ℕ → Type 0) → P 1 → P 2 → P kind
-  either P p q = go (eqb kind 1) refl
-    where
-      go : (d : Bool) → eqb kind 1 ≡ d → P kind
-      go true e = let z : kind ≡ 1 = eqb-true _ _ e in rw z p
-      go false e = let n : (kind ≡ 1 → ⊥) = eqb-false kind 1 e in let z : kind ≡ 2 = omega arith in rw z q
-
   read-long-of : kindOf x ≡ kind → 74 ≤ length x
-  read-long-of = either (λ (k : ℕ). kindOf x ≡ k → 74 ≤ length x) (request-long x) (accept-long x)
+  read-long-of = either kind a b (λ (k : ℕ). kindOf x ≡ k → 74 ≤ length x) (request-long x) (accept-long x)
 
   sheet-of : kindOf x ≡ kind → allRecords (contextType kind) (drop 74 x) ≡ sheetIn kind x
   unfolding contextType
-  sheet-of = either (λ (k : ℕ). kindOf x ≡ k → allRecords (contextType k) (drop 74 x) ≡ sheetIn k x) (request-sheet x) (accept-sheet x)
+  sheet-of = either kind a b (λ (k : ℕ). kindOf x ≡ k → allRecords (contextType k) (drop 74 x) ≡ sheetIn k x) (request-sheet x) (accept-sheet x)
 
   fields-of : (n m : ℕ) → kindOf x ≡ kind → length (sheetIn kind x) / 132 ≡ n → length (rolesSheetIn x) / 68 ≡ m → fieldsWith x n m ≡ fieldsOf kind x
   fields-of n m =
-      either (λ (k : ℕ). kindOf x ≡ k → length (sheetIn k x) / 132 ≡ n → length (rolesSheetIn x) / 68 ≡ m → fieldsWith x n m ≡ fieldsOf k x) (request-fields x n m) (accept-fields x n m)
+      either kind a b (λ (k : ℕ). kindOf x ≡ k → length (sheetIn k x) / 132 ≡ n → length (rolesSheetIn x) / 68 ≡ m → fieldsWith x n m ≡ fieldsOf k x) (request-fields x n m) (accept-fields x n m)
 
   -- its user information is good
   pub user-of : kindOf x ≡ kind → good50H (first (bodies 0x50 (walk (drop 74 x)))) ≡ true
   user-of =
-      either (λ (k : ℕ). kindOf x ≡ k → good50H (first (bodies 0x50 (walk (drop 74 x)))) ≡ true) (λ e. items-50 0x20 (drop 74 x) (request-items x e) refl refl refl)
+      either kind a b (λ (k : ℕ). kindOf x ≡ k → good50H (first (bodies 0x50 (walk (drop 74 x)))) ≡ true) (λ e. items-50 0x20 (drop 74 x) (request-items x e) refl refl refl)
       (λ e. items-50 0x21 (drop 74 x) (accept-items x e) refl refl refl)
 
   -- and what the code puts into the role sheet is the sheet of the roles

@@ -12,11 +12,9 @@ fn put_role(sheet: &mut [u8], n: usize, b: &[u8]) -> usize
     ensures { λ r. ⌜ Put (now (sheet .entry)) n (roleRecord (now (b .entry))) r (now (sheet .exit)) ⌝ }
 {
     let l = octets::be16_at(b, 0) as usize;
-    let r = roles::role_of(
-        user_items::uid_in(b),
-        octets::byte_at(b, 2 + l),
-        octets::byte_at(b, 3 + l),
-    );
+    let scu = octets::byte_at(b, 2 + l);
+    let scp = octets::byte_at(b, 3 + l);
+    let r = roles::role_of(user_items::uid_in(b), scu, scp);
     octets::put(sheet, n, &r)
 }
 

@@ -1,16 +1,16 @@
--- What follows the four bytes of a refused context changes neither what an AC is judged as nor what is read from it.
+-- What follows the four bytes of a refused context changes neither what an AC is judged as nor what is read from it, but for the places behind it.
 -- Assumes nothing.
-use Prim.Native.Nat.{ℕ, _+_}
+use Prim.Native.Nat.{ℕ, zero, suc, _+_}
 use native.Mathlib.Omega.{arith}
 use mathlib.Core.Bool.{Bool, true, false, _&&_, cond}
 use mathlib.Core.List.{List, [], _∷_, _++_, map}
 use mathlib.Core.Path.{_≡_, refl, sym, ap, _∙_}
-use lib.ListN.{length, getD, length-append, List·getD-append}
+use lib.ListN.{length, getD, replicate, length-append, List·getD-append}
 use lib.Seq.{drop-at}
 use lib.Dec.{leb, eqb}
 use borrow.Author.Tests.{le-leb, eq-eqb, ne-eqb, eqb-true}
-use Rattle.laws.specs.Lists.{all, among, distinct}
-use Rattle.laws.proofs.Booleans.{held}
+use Rattle.laws.specs.Lists.{all, empty, among, distinct}
+use Rattle.laws.proofs.Booleans.{held, left-of, right-of}
 use Rattle.numbers.specs.Kinds.{NO-KIND, ASSOCIATE-AC}
 use Rattle.numbers.specs.Results.{ACCEPTED}
 use Rattle.octets.specs.Octets.{be16, be32, odd}
@@ -18,15 +18,15 @@ use Rattle.octets.specs.Put.{front}
 use Rattle.items.specs.Items.{Walk, done, broken, item, walk, filled, bodies, first, place, types, only, goodBodies, holds}
 use Rattle.items.proofs.HoldLaws.{held-order}
 use Rattle.items.proofs.WireLaws.{walk-any}
-use Rattle.contents.specs.Contents.{topKnown, topGood, contextGood, topOk, transferItemOk, good21H, bodyId, ids, itemsOk, maximumIn}
+use Rattle.contents.specs.Contents.{topKnown, topOrder, topGood, contextGood, topOk, transferItemOk, good21H, bodyId, ids, itemsOk, maximumIn}
 use Rattle.contents.proofs.Meaning.{top-holds}
 use Rattle.contents.proofs.GoodLaws.{items-top}
 use Rattle.judging.specs.Pdu.{whole, pduLength, versionOf, topItems, acceptOk, validAs, kindOf, acceptable, maximumOf}
 use Rattle.judging.proofs.KindLaws.{whole-of, accept-items}
 use Rattle.sheets.specs.Sheet.{answerSheetOf}
-use Rattle.reading.specs.Associate.{transferIn, answerOf, answered, applicationOf, applicationAt, sheetIn, fieldsOf, associateRefusal, associateOf, filling, Read}
+use Rattle.reading.specs.Associate.{transferIn, answerOf, answered, applicationOf, applicationAt, subItemsOf, subItemsAt, subItemAt, subItemLen, sheetIn, rolesSheetIn, refused, fieldsOf, associateRefusal, associateOf, filling, rolesFilling, Read}
 use Rattle.reading.specs.declared.associate.Associate.{Associate}
-use Rattle.refused_contexts.specs.Untested.{Around, bodyWith, itemWith, countedWith, acWith, Refused, Taken, Alike}
+use Rattle.refused_contexts.specs.Untested.{Around, bodyWith, itemWith, countedWith, acWith, Refused, Taken, further, moved, Alike}
 use Rattle.refused_contexts.proofs.Joined.{join, walk-join, join-filled, join-types, join-bodies}
 
 -- ---- lists that differ in one element alone
@@ -96,6 +96,51 @@ place-before (item t x u) v b c e = go (eqb t 0x10) (among t (topKnown 0x21)) re
     go true k p q r = refl
     go false true p q r = absurd (held false (sym p ∙ eq-eqb t 0x10 q))
     go false false p q r = ap (λ (n : ℕ). 4 + length x + n) (r q)
+
+-- the place of a 50H behind which no known item stands: it stands behind the 21H, and so moves with its length
+unfoldable ends : List ℕ → Bool
+ends [] = true
+ends (t ∷ ts) = cond (eqb t 0x50) (empty ts) true && ends ts
+
+ends-order : (n : ℕ) → ends (topOrder 0x21 n) ≡ true
+unfolding ends
+ends-order n = go n
+  where
+    go : (n : ℕ) → ends (replicate n 0x21 ++ (0x50 ∷ [])) ≡ true
+    go zero = refl
+    go (suc n) = go n
+
+-- the 21H is one of them
+some-known : (u v : Walk) (b : List ℕ) → filled u ≡ true → empty (only (topKnown 0x21) (types (join u (item 0x21 b v)))) ≡ false
+unfolding join types only among filled
+some-known done v b f = refl
+some-known broken v b f = absurd (held false f)
+some-known (item t x u) v b f = go (among t (topKnown 0x21)) (some-known u v b f)
+  where
+    go : (k : Bool) → empty (only (topKnown 0x21) (types (join u (item 0x21 b v)))) ≡ false
+        → empty (cond k (t ∷ only (topKnown 0x21) (types (join u (item 0x21 b v)))) (only (topKnown 0x21) (types (join u (item 0x21 b v))))) ≡ false
+    go true e = refl
+    go false e = e
+
+place-behind : (u v : Walk) (b c : List ℕ) → filled u ≡ true → ends (only (topKnown 0x21) (types (join u (item 0x21 b v)))) ≡ true
+    → place 0x50 (join u (item 0x21 b v)) + length c ≡ place 0x50 (join u (item 0x21 c v)) + length b
+unfolding join types only among place filled ends
+place-behind done v b c f e = omega arith
+place-behind broken v b c f e = absurd (held false f)
+place-behind (item t x u) v b c f e = go (eqb t 0x50) refl (among t (topKnown 0x21)) refl e (place-behind u v b c f)
+  where
+    l : List ℕ
+    l = only (topKnown 0x21) (types (join u (item 0x21 b v)))
+
+    go : (d : Bool) → eqb t 0x50 ≡ d → (k : Bool) → among t (topKnown 0x21) ≡ k → ends (cond k (t ∷ l) l) ≡ true
+        → (ends l ≡ true → place 0x50 (join u (item 0x21 b v)) + length c ≡ place 0x50 (join u (item 0x21 c v)) + length b)
+        → cond d 4 (4 + length x + place 0x50 (join u (item 0x21 b v))) + length c ≡ cond d 4 (4 + length x + place 0x50 (join u (item 0x21 c v))) + length b
+    go true p true q h r =
+        let z : empty l ≡ true = rw p at (left-of (cond (eqb t 0x50) (empty l) true) (ends l) h) in
+        absurd (held false (sym (some-known u v b f) ∙ z))
+    go true p false q h r = let z : t ≡ 0x50 = eqb-true t 0x50 p in absurd (held false (sym q ∙ rw z))
+    go false p true q h r = let i = r (right-of (cond (eqb t 0x50) (empty l) true) _ h) in omega arith
+    go false p false q h r = let i = r h in omega arith
 
 -- ---- a body with a result that refuses: only its four bytes count
 module _ (p : Around) (n : p .result ≡ ACCEPTED → ⊥) (x : List ℕ) where
@@ -206,45 +251,91 @@ module _ (p : Around) (r : Refused p) (x y : List ℕ) (h : Taken p x) (k : Take
   unfolding sheetIn
   sheet-alike = ap answerSheetOf answers-alike
 
-  -- of a valid AC the application name stands before the 21H
-  place-alike : kindOf one ≡ ASSOCIATE-AC → applicationAt one ≡ applicationAt other
-  unfolding applicationAt
-  place-alike e =
-      let o = held-order (topKnown 0x21) (topGood 0x21) _ (walk (topItems one)) (top-holds 0x21 (walk (topItems one)) (items-top 0x21 (topItems one) (accept-items one e))) in
-      let l : getD (only (topKnown 0x21) (types (join u (item 0x21 (bodyWith p x) v)))) 0 0 ≡ 0x10 = ap (λ (w : Walk). getD (only (topKnown 0x21) (types w)) 0 0) (sym (walked p r x h)) ∙ ap (λ (ts : List ℕ). getD ts 0 0) o in
-      rw (walked p r x h, walked p r y k) (ap (λ (n : ℕ). 74 + n) (place-before u v (bodyWith p x) (bodyWith p y) l))
+  user-alike : subItemsOf one ≡ subItemsOf other
+  unfolding subItemsOf
+  user-alike = rw (walked p r x h, walked p r y k, same-bodies u v (r .whole-items) (bodyWith p x) (bodyWith p y) 0x50 refl)
 
-  refusal-alike : (room : ℕ) → associateRefusal ASSOCIATE-AC one room ≡ associateRefusal ASSOCIATE-AC other room
-  refusal-alike room = rw (kind-alike, sheet-alike)
+  roles-alike : rolesSheetIn one ≡ rolesSheetIn other
+  unfolding rolesSheetIn
+  roles-alike = rw user-alike
+
+  refusal-alike : (room rolesRoom : ℕ) → associateRefusal ASSOCIATE-AC one room rolesRoom ≡ associateRefusal ASSOCIATE-AC other room rolesRoom
+  refusal-alike room rolesRoom = rw (kind-alike, sheet-alike, roles-alike)
 
   maximum-of-alike : maximumOf one ≡ maximumOf other
   unfolding maximumOf
   maximum-of-alike = rw (kind-alike, maximum-alike)
 
-  fields-alike : kindOf one ≡ ASSOCIATE-AC → fieldsOf ASSOCIATE-AC one ≡ fieldsOf ASSOCIATE-AC other
-  fields-alike e = rw (version-alike, place-alike e, name-alike, maximum-of-alike, sheet-alike)
+  -- the order of the known items of a valid AC
+  order : kindOf one ≡ ASSOCIATE-AC → only (topKnown 0x21) (types (join u (item 0x21 (bodyWith p x) v))) ≡ topOrder 0x21 (length (bodies 0x21 (walk (topItems one))))
+  order e =
+      ap (λ (w : Walk). only (topKnown 0x21) (types w)) (sym (walked p r x h))
+      ∙ held-order (topKnown 0x21) (topGood 0x21) _ (walk (topItems one)) (top-holds 0x21 (walk (topItems one)) (items-top 0x21 (topItems one) (accept-items one e)))
 
-  read-alike : (room : ℕ) → associateOf ASSOCIATE-AC one room ≡ associateOf ASSOCIATE-AC other room
-  unfolding associateOf
-  read-alike room = go (eqb (kindOf one) ASSOCIATE-AC) refl
+  -- the application name stands before the 21H
+  place-alike : kindOf one ≡ ASSOCIATE-AC → applicationAt one ≡ applicationAt other
+  unfolding applicationAt
+  place-alike e =
+      rw (walked p r x h, walked p r y k) (ap (λ (n : ℕ). 74 + n) (place-before u v (bodyWith p x) (bodyWith p y) (ap (λ (ts : List ℕ). getD ts 0 0) (order e))))
+
+  -- and the 50H behind it
+  user-moved : kindOf one ≡ ASSOCIATE-AC → subItemsAt one + length y ≡ subItemsAt other + length x
+  unfolding subItemsAt
+  user-moved e =
+      let m = place-behind u v (bodyWith p x) (bodyWith p y) (r .whole-items) (ap ends (order e) ∙ ends-order _) in
+      rw (walked p r x h, walked p r y k) (omega arith)
+
+  name-moved : (t : ℕ) → kindOf one ≡ ASSOCIATE-AC → further (length y) (subItemAt t one) ≡ further (length x) (subItemAt t other)
+  unfolding subItemAt subItemsAt further
+  name-moved t e = rw user-alike (go (empty (bodies t (subItemsOf other))))
     where
-      go : (d : Bool) → eqb (kindOf one) ASSOCIATE-AC ≡ d → associateOf ASSOCIATE-AC one room ≡ associateOf ASSOCIATE-AC other room
-      go true e = rw (refusal-alike room, fields-alike (eqb-true _ _ e))
+      go : (d : Bool) → further (length y) (cond d 0 (subItemsAt one + place t (subItemsOf other))) ≡ further (length x) (cond d 0 (subItemsAt other + place t (subItemsOf other)))
+      go true = refl
+      go false =
+          let m = user-moved e in
+          let a : eqb (subItemsAt one + place t (subItemsOf other)) 0 ≡ false = ne-eqb (subItemsAt one + place t (subItemsOf other)) 0 (λ z. omega arith) in
+          let b : eqb (subItemsAt other + place t (subItemsOf other)) 0 ≡ false = ne-eqb (subItemsAt other + place t (subItemsOf other)) 0 (λ z. omega arith) in
+          rw (a, b) (omega arith)
+
+  length-alike : (t : ℕ) → subItemLen t one ≡ subItemLen t other
+  unfolding subItemLen
+  length-alike t = rw user-alike
+
+  fields-alike : kindOf one ≡ ASSOCIATE-AC → moved (length y) (fieldsOf ASSOCIATE-AC one) ≡ moved (length x) (fieldsOf ASSOCIATE-AC other)
+  fields-alike e =
+      rw (version-alike, place-alike e, name-alike, maximum-of-alike, sheet-alike, roles-alike, name-moved 0x52 e, name-moved 0x55 e, length-alike 0x52, length-alike 0x55, user-alike)
+
+  read-alike : (room rolesRoom : ℕ) → moved (length y) (associateOf ASSOCIATE-AC one room rolesRoom) ≡ moved (length x) (associateOf ASSOCIATE-AC other room rolesRoom)
+  unfolding associateOf further
+  read-alike room rolesRoom = go (eqb (kindOf one) ASSOCIATE-AC) refl
+    where
+      answer : (d : Bool) (n : ℕ) → kindOf one ≡ ASSOCIATE-AC → moved (length y) (cond d (fieldsOf ASSOCIATE-AC one) (refused n)) ≡ moved (length x) (cond d (fieldsOf ASSOCIATE-AC other) (refused n))
+      answer true n e = fields-alike e
+      answer false n e = refl
+
+      go : (d : Bool) → eqb (kindOf one) ASSOCIATE-AC ≡ d → moved (length y) (associateOf ASSOCIATE-AC one room rolesRoom) ≡ moved (length x) (associateOf ASSOCIATE-AC other room rolesRoom)
+      go true e = rw (refusal-alike room rolesRoom) (answer (eqb (associateRefusal ASSOCIATE-AC other room rolesRoom) 0) (associateRefusal ASSOCIATE-AC other room rolesRoom) (eqb-true _ _ e))
       go false e = let z : eqb (kindOf other) ASSOCIATE-AC ≡ false = ap (λ (n : ℕ). eqb n ASSOCIATE-AC) (sym kind-alike) ∙ e in rw (e, z)
 
-  pub untested : Alike one other
-  unfolding acceptable filling
+  pub untested : Alike (length x) (length y) one other
+  unfolding acceptable filling rolesFilling
   untested =
       record {
         kind = kind-alike;
         acceptable = rw (kind-alike, version-alike);
         maximum = maximum-of-alike;
         name = name-alike;
+        user = user-alike;
         read = read-alike;
-        sheet = λ room. rw (refusal-alike room, sheet-alike);
+        sheet = λ room rolesRoom. rw (refusal-alike room rolesRoom, sheet-alike);
+        roles = λ room rolesRoom. rw (refusal-alike room rolesRoom, roles-alike);
       }
 
-  -- and so are the calls: reading either into the same sheet answers the same and leaves the same
-  pub same-calls : (s : List ℕ) (f g : Associate) (s′ s″ : List ℕ) → Read ASSOCIATE-AC one s f s′ → Read ASSOCIATE-AC other s g s″ → (f ≡ g) × (s′ ≡ s″)
-  same-calls s f g s′ s″ a b =
-      (a .answer ∙ (untested .read (length s) ∙ sym (b .answer)), a .sheet ∙ (ap (front s) (untested .sheet (length s)) ∙ sym (b .sheet)))
+  -- and so are the calls: reading either into the same sheets answers the same, the places in the 50H moved, and leaves the same
+  pub same-calls : (s t : List ℕ) (f g : Associate) (s′ t′ s″ t″ : List ℕ) → Read ASSOCIATE-AC one s t f s′ t′ → Read ASSOCIATE-AC other s t g s″ t″
+      → (moved (length y) f ≡ moved (length x) g) × (s′ ≡ s″) × (t′ ≡ t″)
+  same-calls s t f g s′ t′ s″ t″ a b = (
+    ap (moved (length y)) (a .answer) ∙ (untested .read (length s) (length t) ∙ ap (moved (length x)) (sym (b .answer))),
+    a .sheet ∙ (ap (front s) (untested .sheet (length s) (length t)) ∙ sym (b .sheet)),
+    a .roles ∙ (ap (front t) (untested .roles (length s) (length t)) ∙ sym (b .roles)),
+  )

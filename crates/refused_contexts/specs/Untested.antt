@@ -1,16 +1,18 @@
 -- "for results 1 to 4 all that follows the four fixed bytes is left untested": an AC, and the same AC with anything else there.
-use Prim.Native.Nat.{ℕ, _≤_}
+use Prim.Native.Nat.{ℕ, _+_, _≤_}
 use mathlib.Core.Path.{_≡_}
-use mathlib.Core.Bool.{true}
+use mathlib.Core.Bool.{true, cond}
 use mathlib.Core.List.{List, _∷_, _++_}
 use lib.ListN.{length}
+use lib.Dec.{eqb}
 use Rattle.numbers.specs.Kinds.{ASSOCIATE-AC}
 use Rattle.numbers.specs.Lengths.{LONGEST}
 use Rattle.numbers.specs.Results.{ACCEPTED}
 use Rattle.octets.specs.Octets.{two, four}
 use Rattle.items.specs.Items.{walk, filled}
 use Rattle.judging.specs.Pdu.{kindOf, acceptable as acceptableOf, maximumOf}
-use Rattle.reading.specs.Associate.{applicationOf, associateOf, filling}
+use Rattle.reading.specs.Associate.{applicationOf, subItemsOf, associateOf, filling, rolesFilling}
+use Rattle.reading.specs.declared.associate.Associate.{Associate}
 
 -- what stands in an AC around the bytes that follow the four of one of its 21H; reserved bytes as they come
 pub record Around : Type 0 where
@@ -50,12 +52,39 @@ pub record Refused (p : Around) : Type 0 where
 abbrev pub Taken : Around → List ℕ → Type 0
 Taken p x = length (countedWith p x) ≤ LONGEST
 
--- two PDUs are judged alike, and read alike as an AC, whatever the room: the place of the application name too, since it stands before all contexts
-pub record Alike (pdu pdu′ : List ℕ) : Type 0 where
+-- a place so many bytes further on; 0 is no place
+unfoldable pub further : ℕ → ℕ → ℕ
+further n at = cond (eqb at 0) 0 (at + n)
+
+-- an answer with the places of the names in the 50H so many bytes further on
+abbrev pub moved : ℕ → Associate → Associate
+moved n r =
+    record {
+      refusal = r .refusal;
+      version = r .version;
+      «application_at» = r .«application_at»;
+      «application_len» = r .«application_len»;
+      maximum = r .maximum;
+      records = r .records;
+      «class_at» = further n (r .«class_at»);
+      «class_len» = r .«class_len»;
+      «version_name_at» = further n (r .«version_name_at»);
+      «version_name_len» = r .«version_name_len»;
+      invoked = r .invoked;
+      performed = r .performed;
+      roles = r .roles;
+    }
+
+-- two PDUs, one with n and one with n′ bytes behind the four, are judged alike, and read alike as an AC, whatever the room: the place of the application name too, since it
+-- stands before all contexts. The 50H stands behind them, so the places of the names in it differ by as much as n and n′ do
+pub record Alike (n n′ : ℕ) (pdu pdu′ : List ℕ) : Type 0 where
   pub kind : kindOf pdu ≡ kindOf pdu′
   -- what the machine asks of an RQ: of an AC never
   pub acceptable : acceptableOf pdu ≡ acceptableOf pdu′
   pub maximum : maximumOf pdu ≡ maximumOf pdu′
   pub name : applicationOf pdu ≡ applicationOf pdu′
-  pub read : (room : ℕ) → associateOf ASSOCIATE-AC pdu room ≡ associateOf ASSOCIATE-AC pdu′ room
-  pub sheet : (room : ℕ) → filling ASSOCIATE-AC pdu room ≡ filling ASSOCIATE-AC pdu′ room
+  -- and so the class UID, the version name, the operation counts and the roles
+  pub user : subItemsOf pdu ≡ subItemsOf pdu′
+  pub read : (room rolesRoom : ℕ) → moved n′ (associateOf ASSOCIATE-AC pdu room rolesRoom) ≡ moved n (associateOf ASSOCIATE-AC pdu′ room rolesRoom)
+  pub sheet : (room rolesRoom : ℕ) → filling ASSOCIATE-AC pdu room rolesRoom ≡ filling ASSOCIATE-AC pdu′ room rolesRoom
+  pub roles : (room rolesRoom : ℕ) → rolesFilling ASSOCIATE-AC pdu room rolesRoom ≡ rolesFilling ASSOCIATE-AC pdu′ room rolesRoom

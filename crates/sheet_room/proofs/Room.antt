@@ -1,11 +1,12 @@
--- How much room the sheet of a valid RQ or AC can take: 3,257 records in a proposal, 128 in an answer. A sheet with that room is never too short to read into.
+-- How much room the sheets of a valid RQ or AC can take: 3,257 records in a proposal, 128 in an answer, 1,810 in the role sheet of either. Sheets with that room are never
+-- too short to read into.
 -- Assumes nothing.
 use Prim.Native.Nat.{ℕ, zero, suc, _+_, _*_, _/_, _≤_, _<_}
 use native.Mathlib.Omega.{arith}
 use mathlib.Core.Bool.{Bool, true, false, not, _&&_, cond}
 use mathlib.Core.List.{List, [], _∷_, map}
 use mathlib.Core.Path.{_≡_, refl, sym, ap, _∙_}
-use lib.ListN.{length, take, drop, getD, length-append, length-drop}
+use lib.ListN.{length, take, drop, getD, length-append, length-take, length-drop}
 use lib.Seq.{getD-take, getD-drop}
 use lib.Dec.{leb, ltb, eqb}
 use borrow.Author.Tests.{leb-true, le-ltb, lt-ltb, eqb-true}
@@ -14,22 +15,26 @@ use Rattle.laws.proofs.Booleans.{left-of, right-of, both-of, all-mapped}
 use Rattle.numbers.specs.Refusals.{NOT-REFUSED, SHORT-OUTPUT, NO-SUCH-PDU}
 use Rattle.numbers.specs.Lengths.{RECORD}
 use Rattle.numbers.specs.Kinds.{ASSOCIATE-RQ, ASSOCIATE-AC}
-use Rattle.octets.specs.Octets.{odd}
+use Rattle.octets.specs.Octets.{be16, odd}
 use Rattle.names.specs.Name.{nameOk}
 use Rattle.names.proofs.NameLaws.{name-short}
 use Rattle.items.specs.Items.{Walk, walk, bodies, first}
 use Rattle.items.proofs.HoldLaws.{first-good}
-use Rattle.contents.specs.Contents.{bodyId, good20H, good50H, topGood}
-use Rattle.contents.proofs.GoodLaws.{four-20, filled-20, abstract-names, transfer-names, counts-20, abstract-name, one-50, one-filled, one-count, maximum-four, items-filled, items-good, items-counts, items-20}
+use Rattle.roles.specs.Role.{roleOk}
+use Rattle.user_items.specs.Kinds.{uidIn, roleOf, good54H, good50H}
+use Rattle.user_items.proofs.GoodLaws.{user-filled, maximum-one, maximum-length, roles-good, user-size}
+use Rattle.contents.specs.Contents.{bodyId, good20H, topGood, itemsOk}
+use Rattle.contents.proofs.GoodLaws.{four-20, filled-20, abstract-names, transfer-names, counts-20, abstract-name, items-filled, items-some, items-good, items-counts, items-20, items-50}
 use Rattle.judging.specs.Pdu.{kindOf}
-use Rattle.judging.proofs.KindLaws.{whole-length, whole-limit, kind-whole, request-items}
+use Rattle.judging.proofs.KindLaws.{whole-length, whole-limit, kind-whole, request-items, accept-items}
 use Rattle.sheets.specs.Contexts.{Answered, answeredId, answeredOk, allAnsweredOk}
 use Rattle.sheets.specs.Sheet.{contextRecords, sheetOf, recordsOf, recordId, answeredOf, answersIn, answersOk}
 use Rattle.sheets.proofs.RecordLaws.{record-length}
 use Rattle.sheets.proofs.Inverse.{answers-answered, answers-length}
-use Rattle.reading.specs.Associate.{contextOf, answerOf, proposed, answered, sheetIn, associateRefusal, Read}
+use Rattle.reading.specs.Associate.{contextOf, answerOf, proposed, answered, subItemsOf, sheetIn, rolesSheetIn, associateRefusal, Read}
 use Rattle.reading.specs.declared.associate.Associate.{Associate}
-use Rattle.reading.proofs.Meaning.{refusal-is, request-records, accept-sheet-good, accept-sheet-back}
+use Rattle.reading.proofs.ReadLaws.{either}
+use Rattle.reading.proofs.Meaning.{refusal-is, roles-room, request-records, accept-sheet-good, accept-sheet-back}
 use Rattle.sheet_room.proofs.Sizes.{sizes, sizesOf, sizes-most, by-items, size-filled}
 use Rattle.sheet_room.proofs.Distinct.{ids-most}
 
@@ -56,20 +61,36 @@ context-size b g =
     let t = names-size (bodies 0x40 (walk (drop 4 b))) (transfer-names b g) in
     omega arith
 
--- a good 50H: a 51H of four bytes
+-- the one item of a type
 first-size : (bs : List (List ℕ)) → length bs ≡ 1 → sizes bs ≡ 4 + length (first bs)
 unfolding sizes
 first-size [] e = absurd (omega arith)
 first-size (b ∷ []) e = omega arith
 first-size (b ∷ c ∷ bs) e = absurd (omega arith)
 
-user-size : (b : List ℕ) → good50H b ≡ true → 8 ≤ length b
+-- a good 54H: a length, a name, two roles
+role-size : (b : List ℕ) → good54H b ≡ true → 5 ≤ length b
+unfolding good54H roleOk roleOf uidIn
+role-size b g =
+    let e : length b ≡ 2 + be16 b 0 + 2 = eqb-true _ _ (left-of _ (roleOk (roleOf b)) g) in
+    let n = name-some (uidIn b) (left-of _ _ (right-of (eqb (length b) (2 + be16 b 0 + 2)) _ g)) in
+    let l = length-take (be16 b 0) (drop 2 b) in
+    omega arith
+
+roles-size : (bs : List (List ℕ)) → all good54H bs ≡ true → 9 * length bs ≤ sizes bs
+unfolding sizes
+roles-size [] g = omega arith
+roles-size (b ∷ bs) g = let l = role-size b (left-of _ _ g) in let r = roles-size bs (right-of (good54H b) _ g) in omega arith
+
+-- a good 50H: the 51H, and nine bytes or more for each 54H
+user-roles : (b : List ℕ) → good50H b ≡ true → 8 + 9 * length (bodies 0x54 (walk b)) ≤ length b
 unfolding sizesOf distinct among
-user-size b g =
-    let m = sizes-most (0x51 ∷ []) refl (walk b) in
-    let f = size-filled b (one-filled 0x51 (walk b) (one-50 b g)) in
-    let l = first-size (bodies 0x51 (walk b)) (one-count 0x51 (walk b) (one-50 b g)) in
-    let n = maximum-four b g in
+user-roles b g =
+    let m = sizes-most (0x51 ∷ 0x54 ∷ []) refl (walk b) in
+    let f = size-filled b (user-filled b g) in
+    let l = first-size (bodies 0x51 (walk b)) (maximum-one b g) in
+    let n = maximum-length b g in
+    let r = roles-size (bodies 0x54 (walk b)) (roles-good b g) in
     omega arith
 
 -- the one body of a type is good, and so takes at least as many bytes as a good one does
@@ -166,6 +187,41 @@ proposal-most x v =
     let e = request-records x v in
     omega arith
 
+-- either, with k for the type of a context: 68 are fixed, 5 for a 10H, 4 for a context, 12 for a 50H and 9 for each of its 54H
+some-size : (bs : List (List ℕ)) → 4 * length bs ≤ sizes bs
+unfolding sizes
+some-size [] = omega arith
+some-size (b ∷ bs) = let r = some-size bs in omega arith
+
+items-roles : (k : ℕ) (s : List ℕ) → itemsOk k s ≡ true → distinct (0x10 ∷ k ∷ 0x50 ∷ []) ≡ true → eqb k 0x10 ≡ false → eqb k 0x50 ≡ false → eqb 0x50 k ≡ false
+    → 21 + 9 * length (bodies 0x54 (walk (first (bodies 0x50 (walk s))))) ≤ length s
+unfolding topGood sizesOf among
+items-roles k s g d e h i =
+    let c = items-counts k s g e h in
+    let c1 = c .applications in
+    let c2 : 1 ≤ length (bodies k (walk s)) = leb-true _ _ (items-some k s g) in
+    let c3 = c .users in
+    let f = size-filled s (items-filled k s g) in
+    let m = sizes-most (0x10 ∷ k ∷ 0x50 ∷ []) d (walk s) in
+    let a = one-size nameOk 1 name-some (bodies 0x10 (walk s)) c1 (items-good k s g 0x10 refl) in
+    let b = some-size (bodies k (walk s)) in
+    let u = first-size (bodies 0x50 (walk s)) c3 in
+    let r = user-roles (first (bodies 0x50 (walk s))) (items-50 k s g e h i) in
+    omega arith
+
+pub roles-most : (kind : ℕ) (x : List ℕ) → ASSOCIATE-RQ ≤ kind → kind ≤ ASSOCIATE-AC → kindOf x ≡ kind → length (rolesSheetIn x) ≤ 68 * 1810
+unfolding subItemsOf distinct among
+roles-most kind x a b v =
+    let w = kind-whole x kind v (λ z. omega arith) in
+    let l = whole-length x w in
+    let h = whole-limit x w in
+    let d = length-drop 74 x in
+    let n : 21 + 9 * length (bodies 0x54 (walk (first (bodies 0x50 (walk (drop 74 x)))))) ≤ length (drop 74 x)
+    = either kind a b (λ (k : ℕ). kindOf x ≡ k → 21 + 9 * length (bodies 0x54 (walk (first (bodies 0x50 (walk (drop 74 x)))))) ≤ length (drop 74 x))
+    (λ e. items-roles 0x20 (drop 74 x) (request-items x e) refl refl refl refl) (λ e. items-roles 0x21 (drop 74 x) (accept-items x e) refl refl refl refl) v in
+    let r = roles-room kind x a b v in
+    omega arith
+
 -- an AC: the 128 odd numbers that a byte can be. The PDU is a list of bytes, that is, of numbers below 256
 pub answer-most : (x : List ℕ) → ((i : ℕ) → getD x i 0 < 256) → kindOf x ≡ ASSOCIATE-AC → length (sheetIn ASSOCIATE-AC x) ≤ 132 * 128
 unfolding answered allAnsweredOk
@@ -178,27 +234,32 @@ answer-most x b v =
     let m = ap length e in
     omega arith
 
--- ---- so a sheet with that room is never too short
-enough : (kind room most : ℕ) (x : List ℕ) → (kindOf x ≡ kind → length (sheetIn kind x) ≤ most) → most ≤ room → associateRefusal kind x room ≡ SHORT-OUTPUT → ⊥
-enough kind room most x f h = go (eqb (kindOf x) kind) refl
+-- ---- so sheets with that room are never too short
+enough : (kind room rolesRoom most : ℕ) (x : List ℕ) → ASSOCIATE-RQ ≤ kind → kind ≤ ASSOCIATE-AC → (kindOf x ≡ kind → length (sheetIn kind x) ≤ most) → most ≤ room → 68 * 1810 ≤ rolesRoom
+    → associateRefusal kind x room rolesRoom ≡ SHORT-OUTPUT → ⊥
+enough kind room rolesRoom most x a b f h g = go (eqb (kindOf x) kind) refl
   where
-    go : (d : Bool) → eqb (kindOf x) kind ≡ d → cond (not d) NO-SUCH-PDU (cond (ltb room (length (sheetIn kind x))) SHORT-OUTPUT NOT-REFUSED) ≡ SHORT-OUTPUT → ⊥
+    go : (d : Bool) → eqb (kindOf x) kind ≡ d
+        → cond (not d) NO-SUCH-PDU (cond (ltb room (length (sheetIn kind x))) SHORT-OUTPUT (cond (ltb rolesRoom (length (rolesSheetIn x))) SHORT-OUTPUT NOT-REFUSED)) ≡ SHORT-OUTPUT → ⊥
     go false q e = absurd (omega arith)
     go true q e =
         let l = f (eqb-true _ _ q) in
+        let m = roles-most kind x a b (eqb-true _ _ q) in
         let t : ltb room (length (sheetIn kind x)) ≡ false = le-ltb room (length (sheetIn kind x)) (omega arith) in
-        let z : NOT-REFUSED ≡ SHORT-OUTPUT = simp t at e in
+        let u : ltb rolesRoom (length (rolesSheetIn x)) ≡ false = le-ltb rolesRoom (length (rolesSheetIn x)) (omega arith) in
+        let z : NOT-REFUSED ≡ SHORT-OUTPUT = simp (t, u) at e in
         omega arith
 
-pub proposal-room : (x : List ℕ) (room : ℕ) → 132 * 3257 ≤ room → associateRefusal ASSOCIATE-RQ x room ≡ SHORT-OUTPUT → ⊥
-proposal-room x room h = enough ASSOCIATE-RQ room (132 * 3257) x (proposal-most x) h
+pub proposal-room : (x : List ℕ) (room rolesRoom : ℕ) → 132 * 3257 ≤ room → 68 * 1810 ≤ rolesRoom → associateRefusal ASSOCIATE-RQ x room rolesRoom ≡ SHORT-OUTPUT → ⊥
+proposal-room x room rolesRoom h g = enough ASSOCIATE-RQ room rolesRoom (132 * 3257) x (omega arith) (omega arith) (proposal-most x) h g
 
-pub answer-room : (x : List ℕ) → ((i : ℕ) → getD x i 0 < 256) → (room : ℕ) → 132 * 128 ≤ room → associateRefusal ASSOCIATE-AC x room ≡ SHORT-OUTPUT → ⊥
-answer-room x b room h = enough ASSOCIATE-AC room (132 * 128) x (answer-most x b) h
+pub answer-room : (x : List ℕ) → ((i : ℕ) → getD x i 0 < 256) → (room rolesRoom : ℕ) → 132 * 128 ≤ room → 68 * 1810 ≤ rolesRoom → associateRefusal ASSOCIATE-AC x room rolesRoom ≡ SHORT-OUTPUT → ⊥
+answer-room x b room rolesRoom h g = enough ASSOCIATE-AC room rolesRoom (132 * 128) x (omega arith) (omega arith) (answer-most x b) h g
 
 -- and no call that keeps the contract of `read_request` or `read_accept` says so
-pub request-never-short : (x s : List ℕ) (r : Associate) (s′ : List ℕ) → Read ASSOCIATE-RQ x s r s′ → 132 * 3257 ≤ length s → r .refusal ≡ SHORT-OUTPUT → ⊥
-request-never-short x s r s′ w h e = proposal-room x (length s) h (sym (refusal-is ASSOCIATE-RQ x s r s′ w) ∙ e)
+pub request-never-short : (x s t : List ℕ) (r : Associate) (s′ t′ : List ℕ) → Read ASSOCIATE-RQ x s t r s′ t′ → 132 * 3257 ≤ length s → 68 * 1810 ≤ length t → r .refusal ≡ SHORT-OUTPUT → ⊥
+request-never-short x s t r s′ t′ w h g e = proposal-room x (length s) (length t) h g (sym (refusal-is ASSOCIATE-RQ x s t r s′ t′ w) ∙ e)
 
-pub accept-never-short : (x s : List ℕ) (r : Associate) (s′ : List ℕ) → ((i : ℕ) → getD x i 0 < 256) → Read ASSOCIATE-AC x s r s′ → 132 * 128 ≤ length s → r .refusal ≡ SHORT-OUTPUT → ⊥
-accept-never-short x s r s′ b w h e = answer-room x b (length s) h (sym (refusal-is ASSOCIATE-AC x s r s′ w) ∙ e)
+pub accept-never-short : (x s t : List ℕ) (r : Associate) (s′ t′ : List ℕ) → ((i : ℕ) → getD x i 0 < 256) → Read ASSOCIATE-AC x s t r s′ t′ → 132 * 128 ≤ length s → 68 * 1810 ≤ length t
+    → r .refusal ≡ SHORT-OUTPUT → ⊥
+accept-never-short x s t r s′ t′ b w h g e = answer-room x b (length s) (length t) h g (sym (refusal-is ASSOCIATE-AC x s t r s′ t′ w) ∙ e)
