@@ -24,7 +24,7 @@ use Rattle.user_items.specs.Kinds.{good50H}
 use Rattle.user_items.specs.Sent.{userGood, userBytes}
 use Rattle.user_items.proofs.GoodLaws.{user-size}
 use Rattle.contents.specs.Contents.{topGood, itemsOk}
-use Rattle.contents.proofs.GoodLaws.{items-filled, items-good, items-counts}
+use Rattle.contents.proofs.GoodLaws.{items-filled, items-good, items-counts, items-50}
 use Rattle.numbers.specs.Lengths.{HEADER, LONGEST, BUFFER}
 use Rattle.numbers.specs.Refusals.{NOT-REFUSED, SHORT-OUTPUT, BAD-CONTENTS, LONG-PDU}
 use Rattle.numbers.specs.Kinds.{ASSOCIATE-RQ, ASSOCIATE-AC}
@@ -35,7 +35,6 @@ use Rattle.sheets.specs.Sheet.{answersIn, answersOk}
 use Rattle.sheets.proofs.Inverse.{answered-fits, answers-answered, answers-length}
 use Rattle.sheet_room.proofs.Room.{answer-most, answers-most}
 use Rattle.sheet_room.proofs.Sizes.{sizesOf}
-use Rattle.reading.proofs.ReadLaws.{user-of}
 use Rattle.reading.proofs.Meaning.{request-sheet-good, request-sheet-back, accept-sheet-good, accept-sheet-back}
 use Rattle.reading.specs.Associate.{proposed, answered, applicationOf, subItemsOf, sheetIn}
 use Rattle.writing.specs.Fields.{AcFields, rqGood, acGood}
@@ -77,6 +76,9 @@ module _ {C : Type 0} (k : ContextKind C) (pdu : List ℕ) (n : 74 ≤ length pd
   abbrev body : List ℕ
   body = first (bodies 0x50 (walk (topItems pdu)))
 
+  user-good : good50H body ≡ true
+  user-good = items-50 (k .type) (topItems pdu) g (k .apart .name) (k .apart .user) (k .apart .user′)
+
   taken : 82 + (length (applicationOf pdu) + (length (itemsBytes (k .type) (map (k .body) (map (k .read) bs))) + length body)) ≤ length pdu + grown k (map (k .read) bs)
   unfolding applicationOf
   taken =
@@ -87,12 +89,12 @@ module _ {C : Type 0} (k : ContextKind C) (pdu : List ℕ) (n : 74 ≤ length pd
       omega arith
 
   shorter : (given : List ℕ) (f : AssociatePdu) → length (f .middle) ≡ 64 → f .user ≡ userBytes (userRead given pdu) → f .application ≡ applicationOf pdu → f .context ≡ k .type
-      → f .bodies ≡ map (k .body) (map (k .read) bs) → good50H body ≡ true → length (associateBytes f) ≤ length pdu + grown k (map (k .read) bs) + classGrown given pdu
-  shorter given f m u a t b o =
+      → f .bodies ≡ map (k .body) (map (k .read) bs) → length (associateBytes f) ≤ length pdu + grown k (map (k .read) bs) + classGrown given pdu
+  shorter given f m u a t b =
       let l = associate-long f in
       let i = ap length a in
       let v = ap length u ∙ user-long (userRead given pdu) in
-      let y = user-shorter given pdu o in
+      let y = user-shorter given pdu user-good in
       let x : length (itemsBytes (f .context) (f .bodies)) ≡ length (itemsBytes (k .type) (map (k .body) (map (k .read) bs))) = rw (t, b) in
       let r = taken in
       omega arith
@@ -136,7 +138,7 @@ none-added given pdu e = rw e
 -- ---- an RQ
 module _ (pdu : List ℕ) (e : kindOf pdu ≡ ASSOCIATE-RQ) where
   rq-user : good50H (first (bodies 0x50 (walk (topItems pdu)))) ≡ true
-  rq-user = user-of pdu ASSOCIATE-RQ (omega arith) (omega arith) e
+  rq-user = user-good proposing pdu (request-long pdu e) (request-items pdu e)
 
   pub rq-name : nameOk (applicationOf pdu) ≡ true
   unfolding applicationOf
@@ -179,7 +181,7 @@ module _ (given pdu : List ℕ) (n : nameOk given ≡ true) (b : (i : ℕ) → g
       let c = length-append (calledOf pdu) (callingOf pdu ++ replicate 32 0) in
       let d = length-append (callingOf pdu) (replicate 32 0) in
       let z = none-grown (proposed pdu) in
-      let s = shorter proposing pdu n (request-items pdu e) given (rqPdu (rqRead given pdu)) (omega arith) refl refl refl (ap (map contextBody) (request-sheet-back pdu e)) (rq-user pdu e) in
+      let s = shorter proposing pdu n (request-items pdu e) given (rqPdu (rqRead given pdu)) (omega arith) refl refl refl (ap (map contextBody) (request-sheet-back pdu e)) in
       omega arith
 
   pub rq-writable : Writable (rqForm (rqRead given pdu))
@@ -237,7 +239,7 @@ accept-never-long f b g = ac-allowed f g (answers-most (f .sheet) b (right-of (u
 
 module _ (given pdu : List ℕ) (n : nameOk given ≡ true) (b : (i : ℕ) → getD pdu i 0 < 256) (e : kindOf pdu ≡ ASSOCIATE-AC) where
   ac-user : good50H (first (bodies 0x50 (walk (topItems pdu)))) ≡ true
-  ac-user = user-of pdu ASSOCIATE-AC (omega arith) (omega arith) e
+  ac-user = user-good answering pdu (accept-long pdu e) (accept-items pdu e)
 
   echoed-64 : length (take 64 (drop 10 pdu)) ≡ 64
   echoed-64 = let n = accept-long pdu e in length-take-le 64 (drop 10 pdu) (omega (arith, length-drop 10 pdu))
@@ -254,7 +256,7 @@ module _ (given pdu : List ℕ) (n : nameOk given ≡ true) (b : (i : ℕ) → g
   unfolding acForm acPdu answered
   ac-again-longer =
       let z = refused-grown (answered pdu) in
-      let s = shorter answering pdu (accept-long pdu e) (accept-items pdu e) given (acPdu (acRead given pdu)) echoed-64 refl refl refl (ap (map answerBody) (accept-sheet-back pdu e)) ac-user in
+      let s = shorter answering pdu (accept-long pdu e) (accept-items pdu e) given (acPdu (acRead given pdu)) echoed-64 refl refl refl (ap (map answerBody) (accept-sheet-back pdu e)) in
       omega arith
 
   pub ac-writable : Writable (acForm (acRead given pdu))
