@@ -20,12 +20,14 @@ use Rattle.items.specs.Items.{walk, bodies, first}
 use Rattle.items.specs.Wire.{itemsBytes}
 use Rattle.items.proofs.HoldLaws.{first-good}
 use Rattle.items.proofs.WireLaws.{item-length}
+use Rattle.roles.proofs.Inverse.{sheet-length}
 use Rattle.user_items.specs.Kinds.{good50H}
 use Rattle.user_items.specs.Sent.{userGood, userBytes}
 use Rattle.user_items.proofs.GoodLaws.{user-size}
+use Rattle.user_items.proofs.SentLaws.{given-sheet}
 use Rattle.contents.specs.Contents.{topGood, itemsOk}
 use Rattle.contents.proofs.GoodLaws.{items-filled, items-good, items-counts, items-50}
-use Rattle.numbers.specs.Lengths.{HEADER, LONGEST, BUFFER}
+use Rattle.numbers.specs.Lengths.{HEADER, LONGEST, BUFFER, ROLE}
 use Rattle.numbers.specs.Refusals.{NOT-REFUSED, SHORT-OUTPUT, BAD-CONTENTS, LONG-PDU}
 use Rattle.numbers.specs.Kinds.{ASSOCIATE-RQ, ASSOCIATE-AC}
 use Rattle.judging.specs.Pdu.{whole, pduLength, calledOf, callingOf, topItems, requestOk, kindOf}
@@ -47,7 +49,7 @@ use Rattle.round_trips.specs.Trips.{RqTrip, AcTrip, userRead, classGrown
 use Rattle.round_trips.proofs.PduTrip.{Apart, top-good, among-top}
 use Rattle.round_trips.proofs.ContextTrip.{ContextKind, proposing, answering, grown, bodies-short, none-grown, refused-grown}
 use Rattle.round_trips.proofs.Share.{shares, items-size, first-size}
-use Rattle.round_trips.proofs.UserAgain.{user-again, user-shorter}
+use Rattle.round_trips.proofs.UserAgain.{user-again, user-shorter, added-most}
 use Rattle.round_trips.proofs.SentTrip.{sent-rq, sent-ac}
 
 -- ---- the top: the application name, and the room that a 10H, the contexts and the 50H take
@@ -236,6 +238,15 @@ ac-allowed f g n a room h = let l = ac-limit f g n in refusal-0 (acForm f) room 
 pub accept-never-long : (f : AcFields) → ((i : ℕ) → getD (f .sheet) i 0 < 256) → acGood f ≡ true → added (f .user) ≤ 6508 → (room : ℕ) → BUFFER ≤ room → formRefusal (acForm f) room ≡ NOT-REFUSED
 unfolding acGood
 accept-never-long f b g = ac-allowed f g (answers-most (f .sheet) b (right-of (userGood (f .user)) _ (right-of (nameOk (f .application)) _ (right-of (eqb (length (f .echoed)) 64) _ g))))
+
+-- and so with 89 roles at most, whatever the rest
+pub accept-few-roles : (f : AcFields) → ((i : ℕ) → getD (f .sheet) i 0 < 256) → acGood f ≡ true → length (f .user .roles) ≤ ROLE * 89 → (room : ℕ) → BUFFER ≤ room → formRefusal (acForm f) room ≡ NOT-REFUSED
+unfolding acGood
+accept-few-roles f b g h =
+    let u : userGood (f .user) ≡ true = left-of _ (answersOk (f .sheet)) (right-of (nameOk (f .application)) _ (right-of (eqb (length (f .echoed)) 64) _ g)) in
+    let m = added-most (f .user) u in
+    let l = sheet-length (f .user .roles) (given-sheet (f .user) u) in
+    accept-never-long f b g (omega arith)
 
 module _ (given pdu : List ℕ) (n : nameOk given ≡ true) (b : (i : ℕ) → getD pdu i 0 < 256) (e : kindOf pdu ≡ ASSOCIATE-AC) where
   ac-user : good50H (first (bodies 0x50 (walk (topItems pdu)))) ≡ true

@@ -1,6 +1,6 @@
--- The user information that is read from a good 50H may be sent again, with a class UID where it had none, and takes no more bytes but for that one.
+-- The user information that is read from a good 50H may be sent again, with a class UID where it had none, and takes no more bytes but for that one. And how much any may take.
 -- Assumes nothing.
-use Prim.Native.Nat.{ℕ, _+_, _≤_, _<_}
+use Prim.Native.Nat.{ℕ, _+_, _*_, _≤_, _<_}
 use native.Mathlib.Omega.{arith}
 use native.Mathlib.Decide.{decLt}
 use mathlib.Core.Bool.{Bool, true, false, _&&_, _||_, cond, or-true}
@@ -8,19 +8,23 @@ use mathlib.Core.List.{List, [], _∷_, map}
 use mathlib.Core.Path.{_≡_, refl, ap}
 use lib.ListN.{length, take, drop, getD, length-take, length-drop, List·getD-eq-default}
 use lib.Seq.{length-take-le, getD-take, getD-drop}
-use lib.Dec.{eqb}
-use borrow.Author.Tests.{eqb-true, lt-ltb}
+use lib.Dec.{leb, eqb}
+use borrow.Author.Tests.{eqb-true, leb-true, lt-ltb}
 use Rattle.laws.specs.Lists.{all, among, distinct, empty}
 use Rattle.laws.proofs.Booleans.{left-of, right-of, both-of}
 use Rattle.octets.specs.Octets.{be16}
 use Rattle.names.specs.Name.{nameOk}
+use Rattle.names.proofs.NameLaws.{name-short}
+use Rattle.titles.specs.Title.{titleByte}
 use Rattle.items.specs.Items.{Walk, walk, bodies, first, place}
 use Rattle.items.proofs.PlaceLaws.{stands}
-use Rattle.roles.specs.Role.{roleOk}
-use Rattle.roles.proofs.Inverse.{roles-back, roles-sheet-ok}
+use Rattle.roles.specs.Role.{Role, roleOk}
+use Rattle.roles.specs.Sheet.{rolesIn}
+use Rattle.roles.proofs.Inverse.{role-fits, sheet-each, roles-back, roles-sheet-ok}
 use Rattle.user_items.specs.Kinds.{fourLong, versionOk, uidIn, roleOf, good54H, good50H}
 use Rattle.user_items.specs.Said.{countSaid, rolesSaid}
-use Rattle.user_items.specs.Sent.{userGood, countOk}
+use Rattle.user_items.specs.Sent.{User, userGood, countOk}
+use Rattle.user_items.proofs.SentLaws.{given-class, given-version, given-sheet}
 use Rattle.user_items.proofs.GoodLaws.{user-filled, maximum-one, maximum-length, class-good, counts-four, roles-good, roles-said, version-good}
 use Rattle.judging.specs.Pdu.{topItems}
 use Rattle.reading.specs.Associate.{subItemsOf, rolesSheetIn}
@@ -136,3 +140,23 @@ module _ (given pdu : List ℕ) (g : good50H (first (bodies 0x50 (walk (topItems
       let s = roles-size (bodies 0x54 (walk body)) (roles-good body g) in
       let v = version-size (bodies 0x55 (walk body)) in
       omega arith
+
+-- ---- how much may be added: by a class UID, the counts and a version name at most 96 bytes, by a role at most 72
+roles-most : (rs : List Role) → all roleOk rs ≡ true → rolesSize rs ≤ 72 * length rs
+unfolding rolesSize
+roles-most [] g = omega arith
+roles-most (r ∷ rs) g = let l = role-fits r (left-of _ _ g) in let m = roles-most rs (right-of (roleOk r) _ g) in omega arith
+
+version-most : (v : List ℕ) → (empty v || versionOk v) ≡ true → cond (empty v) 0 (4 + length v) ≤ 20
+unfolding versionOk
+version-most [] g = omega arith
+version-most (x ∷ v) g = let l = leb-true (length (x ∷ v)) 16 (left-of _ (all titleByte (x ∷ v)) (right-of (leb 1 (length (x ∷ v))) _ g)) in omega arith
+
+pub added-most : (u : User) → userGood u ≡ true → added u ≤ 96 + 72 * length (rolesIn (u .roles))
+unfolding added
+added-most u g =
+    let c = name-short (u .class) (given-class u g) in
+    let n = at-most (eqb (u .invoked) 1 && eqb (u .performed) 1) 8 in
+    let r = roles-most (rolesIn (u .roles)) (sheet-each (u .roles) (given-sheet u g)) in
+    let v = version-most (u .version) (given-version u g) in
+    omega arith
