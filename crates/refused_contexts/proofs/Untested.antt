@@ -282,7 +282,7 @@ module _ (p : Around) (r : Refused p) (x y : List ℕ) (h : Taken p x) (k : Take
   user-moved : kindOf one ≡ ASSOCIATE-AC → subItemsAt one + length y ≡ subItemsAt other + length x
   unfolding subItemsAt
   user-moved e =
-      let m = place-behind u v (bodyWith p x) (bodyWith p y) (r .whole-items) (ap ends (order e) ∙ ends-order _) in
+      let m = place-behind u v (bodyWith p x) (bodyWith p y) (r .whole-items) (ap ends (order e) ∙ ends-order (length (bodies 0x21 (walk (topItems one))))) in
       rw (walked p r x h, walked p r y k) (omega arith)
 
   name-moved : (t : ℕ) → kindOf one ≡ ASSOCIATE-AC → further (length y) (subItemAt t one) ≡ further (length x) (subItemAt t other)

@@ -58,9 +58,8 @@ module _ (u : User) (g : userGood u ≡ true) where
   given-performed = ltb-true _ _ (right-of (countOk (u .invoked)) _ numbers)
 
 -- ---- good roles written as 54Hs
-module _ (rs : List Role) where
-  pub bodies-good : all roleOk rs ≡ true → all good54H (map roleBody rs) ≡ true
-  bodies-good g = all-mapped roleOk good54H roleBody body-good rs g
+pub bodies-good : (rs : List Role) → all roleOk rs ≡ true → all good54H (map roleBody rs) ≡ true
+bodies-good rs g = all-mapped roleOk good54H roleBody body-good rs g
 
 pub bodies-roles : (rs : List Role) → all roleOk rs ≡ true → map roleOf (map roleBody rs) ≡ rs
 bodies-roles [] g = refl
