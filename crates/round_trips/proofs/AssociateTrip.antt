@@ -1,36 +1,44 @@
 -- An A-ASSOCIATE-RQ or -AC of good contents whose PDU-length is at most 16,384 is a whole valid one, and reads back as those contents.
 -- Assumes nothing.
-use Prim.Native.Nat.{ℕ, _+_, _-_, _≤_}
+use Prim.Native.Nat.{ℕ, _+_, _-_, _≤_, _<_}
 use native.Mathlib.Omega.{arith}
-use mathlib.Core.Bool.{true, false, _&&_, _||_}
-use mathlib.Core.List.{List, _++_, map, append-assoc}
+use mathlib.Core.Bool.{Bool, true, false, _&&_, _||_, cond}
+use mathlib.Core.List.{List, [], _∷_, _++_, map, append-assoc}
 use mathlib.Core.Path.{_≡_, refl, ap, _∙_}
 use lib.ListN.{length, take, drop, replicate, length-append, length-map}
 use lib.Seq.{take-at, drop-at}
-use lib.Dec.{leb, ltb, eqb}
+use lib.Dec.{leb, eqb}
 use borrow.Author.Tests.{eq-eqb, eqb-true, le-ltb}
-use Rattle.laws.specs.Lists.{all, distinct}
+use Rattle.laws.specs.Lists.{all, distinct, empty}
 use Rattle.laws.proofs.Booleans.{left-of, right-of, both-of}
 use Rattle.numbers.specs.Kinds.{ASSOCIATE-RQ, ASSOCIATE-AC}
-use Rattle.octets.specs.Octets.{odd}
+use Rattle.octets.specs.Octets.{be16, be32, odd}
 use Rattle.names.specs.Name.{nameOk}
 use Rattle.titles.specs.Title.{titleOk}
 use Rattle.titles.proofs.TitleLaws.{title-sixteen}
-use Rattle.items.specs.Items.{walk, bodies}
-use Rattle.contents.specs.Contents.{itemsOk}
+use Rattle.items.specs.Items.{Walk, walk, bodies, first, place}
+use Rattle.items.proofs.PlaceLaws.{stands}
+use Rattle.roles.specs.Sheet.{roleSheet}
+use Rattle.roles.proofs.Inverse.{role-sheet-back}
+use Rattle.user_items.specs.Kinds.{good50H}
+use Rattle.user_items.specs.Said.{versionSaid, invokedSaid, performedSaid, rolesSaid}
+use Rattle.user_items.specs.Sent.{User, userGood, userBytes}
+use Rattle.user_items.proofs.SentLaws.{given-sheet, sent-51, sent-52, sent-good, sent-version, sent-no-version, sent-invoked, sent-performed, sent-roles, sent-class-place, sent-version-place}
+use Rattle.contents.specs.Contents.{itemsOk, maximumIn}
 use Rattle.judging.specs.Pdu.{calledOf, callingOf, topItems, requestOk, acceptOk, validAs, kindOf, acceptable, maximumOf}
 use Rattle.judging.proofs.KindLaws.{kind-of-valid}
 use Rattle.sheets.specs.Contexts.{contextsOk, allAnsweredOk}
 use Rattle.sheets.specs.Sheet.{contextsIn, sheetOf, proposalOk, answersIn, answerSheetOf, answersOk}
 use Rattle.sheets.proofs.Inverse.{proposal-contexts, proposal-back, answers-answered, answer-sheet-back}
-use Rattle.reading.specs.Associate.{proposed, answered, applicationOf, applicationAt, sheetIn, fieldsOf, associateOf, filling}
-use Rattle.reading.proofs.Meaning.{application-stands}
+use Rattle.reading.specs.Associate.{proposed, answered, applicationOf, applicationAt, subItemsOf, subItemsAt, subItemAt, subItemLen, sheetIn, rolesSheetIn, fieldsOf, associateRefusal, associateOf, filling, rolesFilling}
+use Rattle.reading.proofs.Meaning.{application-stands, class-stands, version-stands}
 use Rattle.writing.specs.Fields.{RqFields, AcFields, rqGood, acGood}
 use Rattle.writing.specs.Wire.{AssociatePdu, associateItems, associateBytes, pduBytes, rqPdu, acPdu}
 use Rattle.writing.specs.Form.{rqForm, acForm}
-use Rattle.round_trips.specs.Trips.{AssociateTrip, RqTrip, AcTrip, readOf}
+use Rattle.writing.proofs.Case3.{associate-long}
+use Rattle.round_trips.specs.Trips.{AssociateTrip, RqTrip, AcTrip, readOf, classAt, versionAt}
 use Rattle.round_trips.proofs.ContextTrip.{ContextKind, proposing, answering, Bodies, bodies-back}
-use Rattle.round_trips.proofs.PduTrip.{Fits, items-small, associate-kind, frame-version, associate-whole, associate-68, at-middle, at-application, at-place, at-bodies, at-maximum, associate-items-ok}
+use Rattle.round_trips.proofs.PduTrip.{Apart, Fits, items-small, last-small, associate-kind, frame-version, associate-whole, associate-68, at-middle, at-application, at-place, at-bodies, at-user, user-last, associate-items-ok}
 
 -- ---- of either: the contexts cs, good and of no ID twice, in the bodies of a PDU that fits
 module _ {C : Type 0} (k : ContextKind C) (f : AssociatePdu) (w : Fits f) (cs : List C) (t : f .context ≡ k .type) (e : f .bodies ≡ map (k .body) cs)
@@ -49,43 +57,117 @@ module _ {C : Type 0} (k : ContextKind C) (f : AssociatePdu) (w : Fits f) (cs : 
   contexts-at : map (k .read) (bodies (f .context) (walk (topItems (associateBytes f)))) ≡ cs
   contexts-at = ap (map (k .read)) (at-bodies f w ∙ e) ∙ listed .back
 
+-- ---- of either: with user information that may be sent it fits
+fits-with : (f : AssociatePdu) (u : User) → f .user ≡ userBytes u → userGood u ≡ true → length (f .middle) ≡ 64 → length (associateBytes f) ≤ 16390 → Apart (f .context) → Fits f
+fits-with f u e g m l a =
+    let n = associate-long f in
+    let k = ap length e in
+    record { middle = m; limit = l; user = ap good50H e ∙ sent-good u g (omega arith); apart = a }
+
 -- ---- of either: what is read, of a kind that has these fields
-module _ (f : AssociatePdu) (w : Fits f) (kind : ℕ) (v : kindOf (associateBytes f) ≡ kind) (a : (eqb kind ASSOCIATE-RQ || eqb kind ASSOCIATE-AC) ≡ true)
-    (sheet : List ℕ) (s : sheetIn kind (associateBytes f) ≡ sheet) where
-  application-at : applicationOf (associateBytes f) ≡ f .application
+module _ (f : AssociatePdu) (w : Fits f) (u : User) (g : userGood u ≡ true) (x : f .user ≡ userBytes u) (kind : ℕ) (v : kindOf (associateBytes f) ≡ kind)
+    (a : (eqb kind ASSOCIATE-RQ || eqb kind ASSOCIATE-AC) ≡ true) (sheet : List ℕ) (s : sheetIn kind (associateBytes f) ≡ sheet) where
+  abbrev pdu : List ℕ
+  pdu = associateBytes f
+
+  application-at : applicationOf pdu ≡ f .application
   unfolding applicationOf
   application-at = at-application f w
 
-  place-at : applicationAt (associateBytes f) ≡ 78
+  place-at : applicationAt pdu ≡ 78
   unfolding applicationAt
   place-at = ap (λ (n : ℕ). 74 + n) (at-place f w)
 
-  maximum-at : maximumOf (associateBytes f) ≡ 16384
-  unfolding maximumOf
-  maximum-at = rw (v, a) (at-maximum f w)
+  -- the user information
+  user-small : length (userBytes u) < 65536
+  user-small = let l = ap length x in let h = last-small f w in omega arith
 
-  fields-at : fieldsOf kind (associateBytes f) ≡ readOf (f .application) sheet
-  fields-at = rw (frame-version f w, place-at, application-at, maximum-at, s)
+  user-at : subItemsOf pdu ≡ walk (userBytes u)
+  unfolding subItemsOf
+  user-at = ap walk (at-user f w ∙ x)
 
-  module _ (room : ℕ) (h : length sheet ≤ room) where
-    roomy : ltb room (length (sheetIn kind (associateBytes f))) ≡ false
-    roomy = rw s (le-ltb room (length sheet) h)
+  user-from : subItemsAt pdu + length (userBytes u) ≡ length pdu
+  unfolding subItemsAt
+  user-from = let l = ap length x in let e = user-last f w in omega arith
 
-    read-is : associateOf kind (associateBytes f) room ≡ fieldsOf kind (associateBytes f)
+  maximum-at : maximumOf pdu ≡ 16384
+  unfolding maximumOf maximumIn be32 be16
+  maximum-at = rw (v, a) (ap (λ (b : List ℕ). be32 (first (bodies 0x51 (walk b))) 0) (at-user f w ∙ x) ∙ ap (λ (bs : List (List ℕ)). be32 (first bs) 0) (sent-51 u user-small))
+
+  class-is : bodies 0x52 (subItemsOf pdu) ≡ u .class ∷ []
+  class-is = ap (bodies 0x52) user-at ∙ sent-52 u user-small
+
+  class-at : subItemAt 0x52 pdu ≡ classAt u (length pdu)
+  unfolding subItemAt classAt
+  class-at =
+      let p = ap (place 0x52) user-at ∙ sent-class-place u user-small in
+      let e = user-from in
+      rw class-is (omega arith)
+
+  class-long : subItemLen 0x52 pdu ≡ length (u .class)
+  unfolding subItemLen
+  class-long = ap (λ (bs : List (List ℕ)). length (first bs)) class-is
+
+  version-long : subItemLen 0x55 pdu ≡ length (u .version)
+  unfolding subItemLen
+  version-long = ap length (ap versionSaid user-at ∙ sent-version u g user-small)
+
+  version-none : empty (bodies 0x55 (subItemsOf pdu)) ≡ empty (u .version)
+  version-none = ap (λ (v : Walk). empty (bodies 0x55 v)) user-at ∙ sent-no-version u g user-small
+
+  version-at : subItemAt 0x55 pdu ≡ versionAt u (length pdu)
+  unfolding subItemAt versionAt
+  version-at = rw version-none (go (empty (u .version)) refl)
+    where
+      go : (b : Bool) → empty (u .version) ≡ b → cond b 0 (subItemsAt pdu + place 0x55 (subItemsOf pdu)) ≡ cond b 0 (length pdu - length (u .version))
+      go true e = refl
+      go false e =
+          let p = ap (place 0x55) user-at in
+          let q = sent-version-place u user-small e in
+          let w = stands 0x55 (userBytes u) .within in
+          let n = ap length (sent-version u g user-small) in
+          let l = user-from in
+          omega arith
+
+  invoked-at : invokedSaid (subItemsOf pdu) ≡ u .invoked
+  invoked-at = ap invokedSaid user-at ∙ sent-invoked u g user-small
+
+  performed-at : performedSaid (subItemsOf pdu) ≡ u .performed
+  performed-at = ap performedSaid user-at ∙ sent-performed u g user-small
+
+  roles-at : rolesSheetIn pdu ≡ u .roles
+  unfolding rolesSheetIn
+  roles-at = ap (λ (v : Walk). roleSheet (rolesSaid v)) user-at ∙ (ap roleSheet (sent-roles u g user-small) ∙ role-sheet-back (u .roles) (given-sheet u g))
+
+  fields-at : fieldsOf kind pdu ≡ readOf (f .application) u sheet (length pdu)
+  fields-at = rw (frame-version f w, place-at, application-at, maximum-at, s, class-at, class-long, version-at, version-long, invoked-at, performed-at, roles-at)
+
+  module _ (room rolesRoom : ℕ) (h : length sheet ≤ room) (l : length (u .roles) ≤ rolesRoom) where
+    none-due : associateRefusal kind pdu room rolesRoom ≡ 0
+    none-due = rw (eq-eqb _ _ v, s, roles-at, le-ltb room (length sheet) h, le-ltb rolesRoom (length (u .roles)) l)
+
+    read-is : associateOf kind pdu room rolesRoom ≡ fieldsOf kind pdu
     unfolding associateOf
-    read-is = simp (eq-eqb _ _ v, roomy)
+    read-is = simp none-due
 
-    filled-is : filling kind (associateBytes f) room ≡ sheetIn kind (associateBytes f)
+    filled-is : filling kind pdu room rolesRoom ≡ sheetIn kind pdu
     unfolding filling
-    filled-is = simp (eq-eqb _ _ v, roomy)
+    filled-is = simp none-due
 
-  back : AssociateTrip kind (f .application) sheet (associateBytes f)
+    roles-is : rolesFilling kind pdu room rolesRoom ≡ rolesSheetIn pdu
+    unfolding rolesFilling
+    roles-is = simp none-due
+
+  back : AssociateTrip kind (f .application) u sheet pdu
   back =
       record {
         name = application-at;
-        stands = rw (application-at, place-at) at (application-stands (associateBytes f));
-        read = λ room h. read-is room h ∙ fields-at;
-        filled = λ room h. filled-is room h ∙ s;
+        stands = rw (application-at, place-at) at (application-stands pdu);
+        class-stands = rw (class-long, class-at) at (class-stands pdu) ∙ ap first class-is;
+        version-stands = rw (version-long, version-at) at (version-stands pdu) ∙ (ap versionSaid user-at ∙ sent-version u g user-small);
+        read = λ room rolesRoom h l. read-is room rolesRoom h l ∙ fields-at;
+        filled = λ room rolesRoom h l. filled-is room rolesRoom h l ∙ s;
+        roles = λ room rolesRoom h l. roles-is room rolesRoom h l ∙ roles-at;
       }
 
 -- ---- an RQ: the titles, in front of the rest of a PDU
@@ -100,18 +182,21 @@ module _ (c d z v : List ℕ) (h : length c ≡ 16) (l : length d ≡ 16) where
   second-title = ap (λ (x : List ℕ). take 16 (drop 16 x)) regroup ∙ (ap (take 16) (drop-at c (d ++ (z ++ v)) 16 h) ∙ take-at d (z ++ v) 16 l)
 
 module _ (f : RqFields) (g : rqGood f ≡ true) (limit : length (rqForm f .pdu) - 6 ≤ 16384) where
-  rq-parts : (titleOk (f .called) && (titleOk (f .calling) && (nameOk (f .application) && proposalOk (f .sheet)))) ≡ true
+  rq-parts : (titleOk (f .called) && (titleOk (f .calling) && (nameOk (f .application) && (userGood (f .user) && proposalOk (f .sheet))))) ≡ true
   unfolding rqGood
   rq-parts = g
 
-  rq-parts₂ : (titleOk (f .calling) && (nameOk (f .application) && proposalOk (f .sheet))) ≡ true
+  rq-parts₂ : (titleOk (f .calling) && (nameOk (f .application) && (userGood (f .user) && proposalOk (f .sheet)))) ≡ true
   rq-parts₂ = right-of (titleOk (f .called)) _ rq-parts
 
-  rq-parts₃ : (nameOk (f .application) && proposalOk (f .sheet)) ≡ true
+  rq-parts₃ : (nameOk (f .application) && (userGood (f .user) && proposalOk (f .sheet))) ≡ true
   rq-parts₃ = right-of (titleOk (f .calling)) _ rq-parts₂
 
+  rq-parts₄ : (userGood (f .user) && proposalOk (f .sheet)) ≡ true
+  rq-parts₄ = right-of (nameOk (f .application)) _ rq-parts₃
+
   rq-sheet : proposalOk (f .sheet) ≡ true
-  rq-sheet = right-of (nameOk (f .application)) _ rq-parts₃
+  rq-sheet = right-of (userGood (f .user)) _ rq-parts₄
 
   called-16 : length (f .called) ≡ 16
   called-16 = title-sixteen (f .called) (left-of _ _ rq-parts)
@@ -127,7 +212,7 @@ module _ (f : RqFields) (g : rqGood f ≡ true) (limit : length (rqForm f .pdu) 
       let c = length-append (f .called) (f .calling ++ replicate 32 0) in
       let d = length-append (f .calling) (replicate 32 0) in
       let m = limit in
-      record { middle = omega arith; limit = omega arith; user = refl; apart = proposing .apart }
+      fits-with (rqPdu f) (f .user) refl (left-of _ _ rq-parts₄) (omega arith) (omega arith) (proposing .apart)
 
   called-at : calledOf (associateBytes (rqPdu f)) ≡ f .called
   unfolding associateBytes pduBytes rqPdu
@@ -153,9 +238,9 @@ module _ (f : RqFields) (g : rqGood f ≡ true) (limit : length (rqForm f .pdu) 
   unfolding sheetIn
   rq-sheet-at = ap sheetOf proposed-at ∙ proposal-back (f .sheet) rq-sheet
 
-  rq-back : AssociateTrip ASSOCIATE-RQ (f .application) (f .sheet) (associateBytes (rqPdu f))
+  rq-back : AssociateTrip ASSOCIATE-RQ (f .application) (f .user) (f .sheet) (associateBytes (rqPdu f))
   unfolding rqPdu
-  rq-back = back (rqPdu f) rq-fits ASSOCIATE-RQ rq-kind refl (f .sheet) rq-sheet-at
+  rq-back = back (rqPdu f) rq-fits (f .user) (left-of _ _ rq-parts₄) refl ASSOCIATE-RQ rq-kind refl (f .sheet) rq-sheet-at
 
   pub rq-trip : RqTrip f (rqForm f .pdu)
   unfolding rqForm acceptable
@@ -171,19 +256,22 @@ module _ (f : RqFields) (g : rqGood f ≡ true) (limit : length (rqForm f .pdu) 
 
 -- ---- an AC
 module _ (f : AcFields) (g : acGood f ≡ true) (limit : length (acForm f .pdu) - 6 ≤ 16384) where
-  ac-parts : (eqb (length (f .echoed)) 64 && (nameOk (f .application) && answersOk (f .sheet))) ≡ true
+  ac-parts : (eqb (length (f .echoed)) 64 && (nameOk (f .application) && (userGood (f .user) && answersOk (f .sheet)))) ≡ true
   unfolding acGood
   ac-parts = g
 
-  ac-parts₂ : (nameOk (f .application) && answersOk (f .sheet)) ≡ true
+  ac-parts₂ : (nameOk (f .application) && (userGood (f .user) && answersOk (f .sheet))) ≡ true
   ac-parts₂ = right-of (eqb (length (f .echoed)) 64) _ ac-parts
 
+  ac-parts₃ : (userGood (f .user) && answersOk (f .sheet)) ≡ true
+  ac-parts₃ = right-of (nameOk (f .application)) _ ac-parts₂
+
   ac-sheet : answersOk (f .sheet) ≡ true
-  ac-sheet = right-of (nameOk (f .application)) _ ac-parts₂
+  ac-sheet = right-of (userGood (f .user)) _ ac-parts₃
 
   ac-fits : Fits (acPdu f)
   unfolding acForm acPdu
-  ac-fits = let m = limit in record { middle = eqb-true _ _ (left-of _ _ ac-parts); limit = omega arith; user = refl; apart = answering .apart }
+  ac-fits = let m = limit in fits-with (acPdu f) (f .user) refl (left-of _ _ ac-parts₃) (eqb-true _ _ (left-of _ _ ac-parts)) (omega arith) (answering .apart)
 
   ac-kind : kindOf (associateBytes (acPdu f)) ≡ ASSOCIATE-AC
   unfolding validAs acceptOk acPdu allAnsweredOk
@@ -200,9 +288,9 @@ module _ (f : AcFields) (g : acGood f ≡ true) (limit : length (acForm f .pdu) 
   unfolding sheetIn
   ac-sheet-at = ap answerSheetOf answered-at ∙ answer-sheet-back (f .sheet) ac-sheet
 
-  ac-back : AssociateTrip ASSOCIATE-AC (f .application) (f .sheet) (associateBytes (acPdu f))
+  ac-back : AssociateTrip ASSOCIATE-AC (f .application) (f .user) (f .sheet) (associateBytes (acPdu f))
   unfolding acPdu
-  ac-back = back (acPdu f) ac-fits ASSOCIATE-AC ac-kind refl (f .sheet) ac-sheet-at
+  ac-back = back (acPdu f) ac-fits (f .user) (left-of _ _ ac-parts₃) refl ASSOCIATE-AC ac-kind refl (f .sheet) ac-sheet-at
 
   echoed-at : take 64 (drop 10 (associateBytes (acPdu f))) ≡ f .echoed
   unfolding acPdu

@@ -1,11 +1,12 @@
 -- The round trip over the calls themselves, for all seven: what a writer's contract permits it to send, a reader's contract reads back as the same fields.
 -- Assumes nothing.
-use Prim.Native.Nat.{ℕ, _+_}
+use Prim.Native.Nat.{ℕ, _+_, _≤_}
 use mathlib.Core.Path.{_≡_, sym, ap, _∙_}
 use mathlib.Core.Bool.{true}
 use mathlib.Core.List.{List, map}
-use lib.ListN.{length, take, drop}
+use lib.ListN.{length}
 use denote.Ref.{RefT, ptr, now}
+use borrow.Fn.Kinds.{Out}
 use Rattle.laws.specs.Lists.{all, joined}
 use Rattle.octets.specs.Put.{front}
 use Rattle.octets.specs.Slice.{PartOf}
@@ -13,17 +14,20 @@ use Rattle.octets.proofs.PutLaws.{front-start, front-behind}
 use Rattle.pdvs.specs.Data.{Pdv, pdvs, pdvBytes, pdvFits}
 use Rattle.pdvs.proofs.Back.{pdvs-of-bytes}
 use Rattle.judging.specs.Pdu.{kindOf}
-use Rattle.reading.specs.Associate.{associateOf, filling, Read}
+use Rattle.reading.specs.Associate.{associateOf, filling, rolesFilling, Read}
 use Rattle.reading.specs.Values as values
 use Rattle.reading.specs.Data.{dataOf, fragmentOf}
 use Rattle.reading.specs.declared.associate.Associate.{Associate}
 use Rattle.reading.specs.declared.data.DataRead.{DataRead}
-use Rattle.writing.specs.Fields.{rqOf, acOf, rejectOf, itemsOf, abortOf}
+use Rattle.reading.proofs.read_request as read-request
+use Rattle.reading.proofs.read_accept as read-accept
+use Rattle.user_items.specs.Sent.{User}
+use Rattle.writing.specs.Fields.{rejectOf, itemsOf, abortOf}
 use Rattle.writing.specs.Form.{Form, formRefusal, sentBytes, sentOf, Wrote, rqForm, acForm, rejectForm, dataForm, releaseRqForm, releaseRpForm, abortForm}
 use Rattle.writing.specs.declared.Sent.{Sent}
 use Rattle.writing.proofs.FormLaws.{refusal-is}
-use Rattle.round_trips.specs.Trips.{readOf, RqTrip, AcTrip, RejectTrip, DataTrip, AbortTrip}
-use Rattle.round_trips.specs.Calls.{WriteRequest, WriteAccept, WriteReject, WriteData, WriteReleaseRequest, WriteReleaseResponse, WriteAbort, bytesWritten, Judged, SameFields, RequestBack, AcceptBack, RejectBack, AbortBack, DataBack}
+use Rattle.round_trips.specs.Trips.{readOf, AssociateTrip, RqTrip, AcTrip, RejectTrip, DataTrip, AbortTrip}
+use Rattle.round_trips.specs.Calls.{WriteRequest, requestGiven, requestOut, WriteAccept, acceptGiven, acceptOut, WriteReject, WriteData, WriteReleaseRequest, WriteReleaseResponse, WriteAbort, ReadAssociate, bytesWritten, Judged, StartsWith, SameFields, ReadBack, RequestBack, AcceptBack, RejectBack, AbortBack, DataBack}
 use Rattle.round_trips.proofs.SentTrip.{sent-rq, sent-ac, sent-reject, sent-data, sent-release-rq, sent-release-rp, sent-abort}
 
 -- ---- what a writer's contract says was sent
@@ -40,13 +44,28 @@ module _ (f : Form) (o : List ℕ) (r : Sent) (o′ : List ℕ) (w : Wrote f o r
 judged : (pdu : List ℕ) (k : ℕ) → kindOf pdu ≡ k → Judged pdu k
 judged pdu k e c g = c .permitted ∙ (ap kindOf g ∙ e)
 
-module _ (kind : ℕ) (application sheet pdu q s s′ : List ℕ) (r : Associate) (g : q ≡ pdu) (p : Read kind q s r s′) where
-  same-fields : associateOf kind pdu (length s) ≡ readOf application sheet → filling kind pdu (length s) ≡ sheet → take (length application) (drop 78 pdu) ≡ application
-      → SameFields application sheet pdu s r s′
-  same-fields a b n =
-      let e : r ≡ readOf application sheet = p .answer ∙ (ap (λ (x : List ℕ). associateOf kind x (length s)) g ∙ a) in
-      let t : s′ ≡ front s sheet = p .sheet ∙ (ap (λ (x : List ℕ). front s (filling kind x (length s))) g ∙ ap (front s) b) in
-      record { answer = e; name = rw e n; start = rw t (front-start s sheet); behind = rw t (front-behind s sheet) }
+starts : (bs s s′ : List ℕ) → s′ ≡ front s bs → StartsWith bs s s′
+starts bs s s′ e = record { start = rw e (front-start s bs); behind = rw e (front-behind s bs) }
+
+module _ (kind : ℕ) (application : List ℕ) (u : User) (sheet pdu x s q s′ q′ : List ℕ) (r : Associate) (g : x ≡ pdu) (p : Read kind x s q r s′ q′) (t : AssociateTrip kind application u sheet pdu) where
+  same-fields : length sheet ≤ length s → length (u .roles) ≤ length q → SameFields application u sheet pdu s q r s′ q′
+  same-fields h l =
+      let e : r ≡ readOf application u sheet (length pdu) = p .answer ∙ (ap (λ (y : List ℕ). associateOf kind y (length s) (length q)) g ∙ t .read (length s) (length q) h l) in
+      record {
+        answer = e;
+        name = rw e (t .stands);
+        class-uid = rw e (t .class-stands);
+        version-name = rw e (t .version-stands);
+        contexts = starts sheet s s′ (p .sheet ∙ (ap (λ (y : List ℕ). front s (filling kind y (length s) (length q))) g ∙ ap (front s) (t .filled (length s) (length q) h l)));
+        roles = starts (u .roles) q q′ (p .roles ∙ (ap (λ (y : List ℕ). front q (rolesFilling kind y (length s) (length q))) g ∙ ap (front q) (t .roles (length s) (length q) h l)));
+      }
+
+-- whatever a reader of that kind answers
+read-back : (kind : ℕ) (Post : Out 3 read-request.Kinds.ps read-request.Kinds.r)
+    → ((c : ReadAssociate Post) → Read kind (now (c .given .0)) (now (c .given .1 .0)) (now (c .given .1 .1 .0)) (c .answer) (now (c .left .1 .0)) (now (c .left .1 .1 .0)))
+    → (application : List ℕ) (u : User) (sheet pdu : List ℕ) → AssociateTrip kind application u sheet pdu → ReadBack Post application u sheet pdu
+read-back kind Post p application u sheet pdu t d g h l =
+    same-fields kind application u sheet pdu (now (d .given .0)) (now (d .given .1 .0)) (now (d .given .1 .1 .0)) (now (d .left .1 .0)) (now (d .left .1 .1 .0)) (d .answer) g (p d) t h l
 
 -- the part that `fragment` hands back
 part-is : (s r : RefT (List ℕ)) (pdu : List ℕ) (n : ℕ) {at : ℕ} {bs : List ℕ} → now s ≡ pdu → PartOf s (dataOf (now s) n .start) (fragmentOf (now s) n) r
@@ -59,33 +78,29 @@ part-is s r pdu n g p a b =
     }
 
 -- ---- the seven
-pub request-call : (c : WriteRequest) → c .answer .refusal ≡ 0
-    → RequestBack (rqOf (now (c .given .0)) (now (c .given .1 .0)) (now (c .given .1 .1 .0)) (now (c .given .1 .1 .1 .0))) (bytesWritten (c .answer) (now (c .left .1 .1 .1 .1 .0)))
+pub request-call : (c : WriteRequest) → c .answer .refusal ≡ 0 → RequestBack (requestGiven c) (bytesWritten (c .answer) (requestOut c))
 request-call c z =
-    let f = rqOf (now (c .given .0)) (now (c .given .1 .0)) (now (c .given .1 .1 .0)) (now (c .given .1 .1 .1 .0)) in
-    let o = now (c .given .1 .1 .1 .1 .0) in
-    let pdu = bytesWritten (c .answer) (now (c .left .1 .1 .1 .1 .0)) in
-    let t = holds (rqForm f) o (c .answer) (now (c .left .1 .1 .1 .1 .0)) (c .permitted) (RqTrip f) (sent-rq (length o) f) z in
+    let f = requestGiven c in
+    let o = now (c .given .1 .1 .1 .1 .1 .1 .1 .1 .1 .0) in
+    let pdu = bytesWritten (c .answer) (requestOut c) in
+    let t = holds (rqForm f) o (c .answer) (requestOut c) (c .permitted) (RqTrip f) (sent-rq (length o) f) z in
     record {
       kind = judged pdu 1 (t .kind);
       called = t .called;
       calling = t .calling;
-      read = λ d g h. same-fields 1 (f .application) (f .sheet) pdu (now (d .given .0)) (now (d .given .1 .0)) (now (d .left .1 .0)) (d .answer) g (d .permitted)
-          (t .fields .read (length (now (d .given .1 .0))) h) (t .fields .filled (length (now (d .given .1 .0))) h) (t .fields .stands);
+      read = read-back 1 read-request.Reads.Post (λ d. d .permitted) (f .application) (f .user) (f .sheet) pdu (t .fields);
     }
 
-pub accept-call : (c : WriteAccept) → c .answer .refusal ≡ 0
-    → AcceptBack (acOf (now (c .given .0)) (now (c .given .1 .0)) (now (c .given .1 .1 .0))) (bytesWritten (c .answer) (now (c .left .1 .1 .1 .0)))
+pub accept-call : (c : WriteAccept) → c .answer .refusal ≡ 0 → AcceptBack (acceptGiven c) (bytesWritten (c .answer) (acceptOut c))
 accept-call c z =
-    let f = acOf (now (c .given .0)) (now (c .given .1 .0)) (now (c .given .1 .1 .0)) in
-    let o = now (c .given .1 .1 .1 .0) in
-    let pdu = bytesWritten (c .answer) (now (c .left .1 .1 .1 .0)) in
-    let t = holds (acForm f) o (c .answer) (now (c .left .1 .1 .1 .0)) (c .permitted) (AcTrip f) (sent-ac (length o) f) z in
+    let f = acceptGiven c in
+    let o = now (c .given .1 .1 .1 .1 .1 .1 .1 .1 .0) in
+    let pdu = bytesWritten (c .answer) (acceptOut c) in
+    let t = holds (acForm f) o (c .answer) (acceptOut c) (c .permitted) (AcTrip f) (sent-ac (length o) f) z in
     record {
       kind = judged pdu 2 (t .kind);
       echoed = t .echoed;
-      read = λ d g h. same-fields 2 (f .application) (f .sheet) pdu (now (d .given .0)) (now (d .given .1 .0)) (now (d .left .1 .0)) (d .answer) g (d .permitted)
-          (t .fields .read (length (now (d .given .1 .0))) h) (t .fields .filled (length (now (d .given .1 .0))) h) (t .fields .stands);
+      read = read-back 2 read-accept.Reads.Post (λ d. d .permitted) (f .application) (f .user) (f .sheet) pdu (t .fields);
     }
 
 pub reject-call : (c : WriteReject) → c .answer .refusal ≡ 0 → RejectBack (rejectOf (c .given .0) (c .given .1 .0) (c .given .1 .1 .0)) (bytesWritten (c .answer) (now (c .left .1 .1 .1 .0)))

@@ -8,7 +8,7 @@ use mathlib.Core.Path.{_≡_, refl, sym, ap, _∙_}
 use lib.ListN.{length, drop, getD, replicate, length-append, length-drop}
 use lib.Dec.{leb, eqb}
 use borrow.Author.Tests.{le-leb, eqb-true}
-use Rattle.laws.specs.Lists.{all, empty, among}
+use Rattle.laws.specs.Lists.{all, empty, among, distinct}
 use Rattle.laws.proofs.Booleans.{held, left-of, right-of, both-of}
 use Rattle.names.specs.Name.{nameOk}
 use Rattle.items.specs.Items.{Walk, done, item, walk, filled, bodies, first, types, only, goodBodies, holds}
@@ -21,10 +21,11 @@ use Rattle.contents.specs.Contents.{contextKnown, answerKnown, named, contextOr
 use Rattle.contents.proofs.GoodLaws.{four-20, filled-20, counts-20, one-filled, one-count, four-21, one-21}
 use Rattle.sheets.specs.Contexts.{Context, Answered, contextId, answeredId, contextOk, answeredOk, transferNameOk}
 use Rattle.reading.specs.Associate.{contextOf, transferIn, answerOf}
+use Rattle.sheet_room.proofs.Sizes.{sizesOf}
 use Rattle.writing.specs.Wire.{contextBody, answerBody}
 use Rattle.round_trips.specs.Trips.{refusals}
 use Rattle.round_trips.proofs.PduTrip.{Apart}
-use Rattle.round_trips.proofs.Share.{three, first-share}
+use Rattle.round_trips.proofs.Share.{shares, items-size, first-size}
 
 -- ---- a context
 walk-context : (c : Context) → length (contextBody c) < 65536 → walk (drop 4 (contextBody c)) ≡ item 0x30 (c .abstr) (run 0x40 (c .transfers) done)
@@ -63,13 +64,14 @@ context-good c k h =
     both-of _ _ (le-leb 4 (length (contextBody c)) (omega arith)) (both-of (odd (c .id)) _ (left-of _ _ k) w)
 
 pub context-short : (b : List ℕ) → contextGood 0x20 b ≡ true → length (contextBody (contextOf b)) ≤ length b
-unfolding contextGood contextBody contextOf
+unfolding contextGood contextBody contextOf sizesOf distinct among
 context-short b g =
     let a = item-length 0x30 (first (bodies 0x30 (walk (drop 4 b)))) in
     let l = length-append (itemBytes 0x30 (first (bodies 0x30 (walk (drop 4 b))))) (itemsBytes 0x40 (bodies 0x40 (walk (drop 4 b)))) in
     let c = counts-20 b g .abstracts in
-    let f = first-share 0x30 (bodies 0x30 (walk (drop 4 b))) (omega arith) in
-    let t = three 0x30 0x40 0x51 (drop 4 b) refl refl refl (filled-20 b g) in
+    let f = first-size (bodies 0x30 (walk (drop 4 b))) (omega arith) in
+    let i = items-size 0x40 (bodies 0x40 (walk (drop 4 b))) in
+    let t = shares (0x30 ∷ 0x40 ∷ []) refl (drop 4 b) (filled-20 b g) in
     let d = length-drop 4 b in
     let n = four-20 b g in
     omega arith
@@ -123,15 +125,15 @@ abbrev pub answerGrows : Answered → ℕ
 answerGrows c = cond (eqb (c .result) ACCEPTED) 0 4
 
 pub answer-short : (b : List ℕ) → contextGood 0x21 b ≡ true → length (answerBody (answerOf b)) ≤ length b + answerGrows (answerOf b)
-unfolding contextGood answerBody answerOf transferIn
+unfolding contextGood answerBody answerOf transferIn sizesOf distinct among
 answer-short b g = let l = go (eqb (getD b 2 0) ACCEPTED) refl in omega arith
   where
     go : (d : Bool) → eqb (getD b 2 0) ACCEPTED ≡ d → 4 + length (itemBytes 0x40 (cond d (first (bodies 0x40 (walk (drop 4 b)))) [])) ≤ length b + cond d 0 4
     go true e =
         let o = one-21 b g (eqb-true _ _ e) in
         let n = one-count 0x40 (walk (drop 4 b)) o in
-        let f = first-share 0x40 (bodies 0x40 (walk (drop 4 b))) (omega arith) in
-        let t = three 0x30 0x40 0x51 (drop 4 b) refl refl refl (one-filled 0x40 (walk (drop 4 b)) o) in
+        let f = first-size (bodies 0x40 (walk (drop 4 b))) (omega arith) in
+        let t = shares (0x40 ∷ []) refl (drop 4 b) (one-filled 0x40 (walk (drop 4 b)) o) in
         let d = length-drop 4 b in
         let m = four-21 b g in
         let a = item-length 0x40 (first (bodies 0x40 (walk (drop 4 b)))) in

@@ -4,5 +4,6 @@ pub mod ContextTrip
 pub mod AssociateTrip
 pub mod SmallTrip
 pub mod SentTrip
+pub mod UserAgain
 pub mod Again
 pub mod CallTrip

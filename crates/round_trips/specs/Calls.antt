@@ -21,7 +21,8 @@ use Rattle.reading.proofs.read_reject as read-reject
 use Rattle.reading.proofs.read_abort as read-abort
 use Rattle.reading.proofs.read_data as read-data
 use Rattle.reading.proofs.fragment as fragment
-use Rattle.writing.specs.Fields.{RqFields, AcFields, Reject, Abort}
+use Rattle.user_items.specs.Sent.{User, userOf}
+use Rattle.writing.specs.Fields.{RqFields, AcFields, Reject, Abort, rqOf, acOf}
 use Rattle.writing.specs.declared.Sent.{Sent}
 use Rattle.writing.proofs.write_reject as write-reject
 use Rattle.writing.proofs.write_data as write-data
@@ -41,13 +42,32 @@ pub record Permitted (n : ℕ) (ps : List (PK n)) (r : RK n) (Post : Out n ps r)
   pub permitted : Post lifetimes given answer left
 
 -- ---- the calls, each with the places of its arguments
--- called, calling, application, sheet, out
+-- called, calling, application, class_uid, version_name, invoked, performed, roles, sheet, out
 abbrev pub WriteRequest : Type 0
-WriteRequest = Permitted 5 write-request.Kinds.ps write-request.Kinds.r write-request.Reads.Post
+WriteRequest = Permitted 8 write-request.Kinds.ps write-request.Kinds.r write-request.Reads.Post
 
--- echoed, application, sheet, out
+-- the contents that it was given, and what it left in the output
+abbrev pub requestGiven : WriteRequest → RqFields
+requestGiven c =
+    rqOf (now (c .given .0)) (now (c .given .1 .0)) (now (c .given .1 .1 .0))
+    (userOf (now (c .given .1 .1 .1 .0)) (now (c .given .1 .1 .1 .1 .0)) (c .given .1 .1 .1 .1 .1 .0) (c .given .1 .1 .1 .1 .1 .1 .0) (now (c .given .1 .1 .1 .1 .1 .1 .1 .0)))
+    (now (c .given .1 .1 .1 .1 .1 .1 .1 .1 .0))
+
+abbrev pub requestOut : WriteRequest → List ℕ
+requestOut c = now (c .left .1 .1 .1 .1 .1 .1 .1 .1 .1 .0)
+
+-- echoed, application, class_uid, version_name, invoked, performed, roles, sheet, out
 abbrev pub WriteAccept : Type 0
-WriteAccept = Permitted 4 write-accept.Kinds.ps write-accept.Kinds.r write-accept.Reads.Post
+WriteAccept = Permitted 7 write-accept.Kinds.ps write-accept.Kinds.r write-accept.Reads.Post
+
+abbrev pub acceptGiven : WriteAccept → AcFields
+acceptGiven c =
+    acOf (now (c .given .0)) (now (c .given .1 .0))
+    (userOf (now (c .given .1 .1 .0)) (now (c .given .1 .1 .1 .0)) (c .given .1 .1 .1 .1 .0) (c .given .1 .1 .1 .1 .1 .0) (now (c .given .1 .1 .1 .1 .1 .1 .0)))
+    (now (c .given .1 .1 .1 .1 .1 .1 .1 .0))
+
+abbrev pub acceptOut : WriteAccept → List ℕ
+acceptOut c = now (c .left .1 .1 .1 .1 .1 .1 .1 .1 .0)
 
 -- result, source, reason, out
 abbrev pub WriteReject : Type 0
@@ -73,9 +93,9 @@ WriteAbort = Permitted 1 write-abort.Kinds.ps write-abort.Kinds.r write-abort.Re
 abbrev pub KindOf : Type 0
 KindOf = Permitted 1 kind-of.Kinds.ps kind-of.Kinds.r kind-of.Reads.Post
 
--- pdu, sheet: either reader of an RQ or AC, by its contract
-abbrev pub ReadAssociate : Out 2 read-request.Kinds.ps read-request.Kinds.r → Type 0
-ReadAssociate Post = Permitted 2 read-request.Kinds.ps read-request.Kinds.r Post
+-- pdu, sheet, roles: either reader of an RQ or AC, by its contract
+abbrev pub ReadAssociate : Out 3 read-request.Kinds.ps read-request.Kinds.r → Type 0
+ReadAssociate Post = Permitted 3 read-request.Kinds.ps read-request.Kinds.r Post
 
 -- pdu
 abbrev pub ReadReject : Type 0
@@ -100,31 +120,39 @@ bytesWritten r out = take (r .count) out
 abbrev pub Judged : List ℕ → ℕ → Type 0
 Judged pdu k = (c : KindOf) → now (c .given .0) ≡ pdu → c .answer ≡ k
 
--- reading an RQ or AC into the sheet s, which is then s′, answered r: the same application name, and the same sheet at the start of s′ with nothing changed behind it
-pub record SameFields (application sheet pdu s : List ℕ) (r : Associate) (s′ : List ℕ) : Type 0 where
-  pub answer : r ≡ readOf application sheet
-  pub name : take (r .«application_len») (drop (r .«application_at») pdu) ≡ application
-  pub start : take (length sheet) s′ ≡ sheet
-  pub behind : drop (length sheet) s′ ≡ drop (length sheet) s
+-- s′ starts with these bytes, and behind them nothing of s is changed
+pub record StartsWith (bs s s′ : List ℕ) : Type 0 where
+  pub start : take (length bs) s′ ≡ bs
+  pub behind : drop (length bs) s′ ≡ drop (length bs) s
 
--- whatever a reader with this contract answers of the bytes, into a sheet that has room
-abbrev pub ReadBack : Out 2 read-request.Kinds.ps read-request.Kinds.r → List ℕ → List ℕ → List ℕ → Type 0
-ReadBack Post application sheet pdu =
-    (c : ReadAssociate Post) → now (c .given .0) ≡ pdu → length sheet ≤ length (now (c .given .1 .0))
-    → SameFields application sheet pdu (now (c .given .1 .0)) (c .answer) (now (c .left .1 .0))
+-- reading an RQ or AC answered r, into the sheet s and the role sheet q, which are then s′ and q′: the same application name, class UID and version name, each where the answer says, and
+-- the same sheets
+pub record SameFields (application : List ℕ) (u : User) (sheet pdu s q : List ℕ) (r : Associate) (s′ q′ : List ℕ) : Type 0 where
+  pub answer : r ≡ readOf application u sheet (length pdu)
+  pub name : take (r .«application_len») (drop (r .«application_at») pdu) ≡ application
+  pub class-uid : take (r .«class_len») (drop (r .«class_at») pdu) ≡ u .class
+  pub version-name : take (r .«version_name_len») (drop (r .«version_name_at») pdu) ≡ u .version
+  pub contexts : StartsWith sheet s s′
+  pub roles : StartsWith (u .roles) q q′
+
+-- whatever a reader with this contract answers of the bytes, into sheets that have room
+abbrev pub ReadBack : Out 3 read-request.Kinds.ps read-request.Kinds.r → List ℕ → User → List ℕ → List ℕ → Type 0
+ReadBack Post application u sheet pdu =
+    (c : ReadAssociate Post) → now (c .given .0) ≡ pdu → length sheet ≤ length (now (c .given .1 .0)) → length (u .roles) ≤ length (now (c .given .1 .1 .0))
+    → SameFields application u sheet pdu (now (c .given .1 .0)) (now (c .given .1 .1 .0)) (c .answer) (now (c .left .1 .0)) (now (c .left .1 .1 .0))
 
 -- as an RQ with the fields f, the titles at their fixed places
 pub record RequestBack (f : RqFields) (pdu : List ℕ) : Type 0 where
   pub kind : Judged pdu ASSOCIATE-RQ
   pub called : calledOf pdu ≡ f .called
   pub calling : callingOf pdu ≡ f .calling
-  pub read : ReadBack read-request.Reads.Post (f .application) (f .sheet) pdu
+  pub read : ReadBack read-request.Reads.Post (f .application) (f .user) (f .sheet) pdu
 
 -- as an AC with the fields f, the echoed bytes at their fixed place
 pub record AcceptBack (f : AcFields) (pdu : List ℕ) : Type 0 where
   pub kind : Judged pdu ASSOCIATE-AC
   pub echoed : take 64 (drop 10 pdu) ≡ f .echoed
-  pub read : ReadBack read-accept.Reads.Post (f .application) (f .sheet) pdu
+  pub read : ReadBack read-accept.Reads.Post (f .application) (f .user) (f .sheet) pdu
 
 -- as an RJ and an ABORT with the values f
 pub record RejectBack (f : Reject) (pdu : List ℕ) : Type 0 where

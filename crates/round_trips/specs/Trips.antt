@@ -1,12 +1,12 @@
 -- The round trip of each PDU: what is written is a whole valid PDU of its kind, and reading it gives the same fields, a sheet byte for byte. And what may be read may be written again.
-use Prim.Native.Nat.{ℕ, _+_, _-_, _/_, _≤_}
+use Prim.Native.Nat.{ℕ, _+_, _-_, _/_, _≤_, _<_}
 use mathlib.Core.Path.{_≡_}
 use mathlib.Core.Bool.{true, cond}
 use mathlib.Core.List.{List, [], _∷_}
 use lib.ListN.{length, take, drop}
 use lib.Dec.{ltb, eqb}
 use Rattle.laws.specs.Lists.{empty}
-use Rattle.numbers.specs.Refusals.{NOT-REFUSED, BAD-CONTENTS}
+use Rattle.numbers.specs.Refusals.{NOT-REFUSED, BAD-CONTENTS, LONG-PDU}
 use Rattle.numbers.specs.Kinds.{ASSOCIATE-RQ, ASSOCIATE-AC, ASSOCIATE-RJ, DATA-TF, ABORT}
 use Rattle.numbers.specs.Lengths.{HEADER, LONGEST, RECORD, ROLE}
 use Rattle.numbers.specs.Results.{ACCEPTED}
@@ -23,6 +23,7 @@ use Rattle.reading.specs.Data.{pdv, startOf, noData, dataOf, fragmentOf}
 use Rattle.reading.specs.declared.associate.Associate.{Associate}
 use Rattle.reading.specs.declared.data.DataRead.{DataRead}
 use Rattle.writing.specs.Fields.{RqFields, AcFields, Reject, Items, Abort}
+use Rattle.writing.specs.Form.{Form, formRefusal}
 
 -- where the class UID and the version name stand in an RQ or AC of ours, so many bytes long: the user information comes last, in it the class UID behind the 51H and the 52H's head,
 -- and the version name at the end
@@ -133,3 +134,10 @@ acRead given pdu = record { echoed = take 64 (drop 10 pdu); application = applic
 unfoldable pub refusals : List Answered → ℕ
 refusals [] = 0
 refusals (c ∷ cs) = cond (eqb (c .result) ACCEPTED) 0 1 + refusals cs
+
+-- contents that may be written: never 4; 5 exactly if the PDU-length passes 16,384, whatever the room; else nothing is refused where the PDU has room
+pub record Writable (f : Form) : Type 0 where
+  pub never-bad : (room : ℕ) → formRefusal f room ≡ BAD-CONTENTS → ⊥
+  pub long : (room : ℕ) → LONGEST < length (f .pdu) - HEADER → formRefusal f room ≡ LONG-PDU
+  pub only-long : (room : ℕ) → formRefusal f room ≡ LONG-PDU → LONGEST < length (f .pdu) - HEADER
+  pub sent : (room : ℕ) → length (f .pdu) - HEADER ≤ LONGEST → length (f .pdu) ≤ room → formRefusal f room ≡ NOT-REFUSED

@@ -1,46 +1,47 @@
--- An RQ that was read is never a bad proposal, its answers always have room in a sheet for 128, and the accept response takes them: the AC is no longer than the RQ.
+-- An RQ that was read is never a bad proposal, its answers always have room in a sheet for 128, and the accept response takes them: the AC is no longer than the RQ and what our user
+-- information adds.
 -- Assumes nothing.
 use Prim.Native.Nat.{ℕ, zero, suc, _+_, _*_, _/_, _≤_, _<_}
 use native.Mathlib.Omega.{arith}
-use native.Mathlib.Decide.{decLt}
 use mathlib.Core.Bool.{Bool, true, false, not, cond}
-use mathlib.Core.List.{List, [], _∷_, _++_, map}
+use mathlib.Core.List.{List, [], _∷_, map}
 use mathlib.Core.Path.{_≡_, refl, sym, ap, _∙_}
-use lib.ListN.{length, take, drop, getD, replicate, length-append, length-take, length-drop, List·getD-eq-default}
-use lib.Seq.{length-take-le, getD-take}
+use lib.ListN.{length, drop, getD, length-append, length-drop, length-map}
+use lib.Seq.{length-take-le}
 use lib.Dec.{ltb, eqb}
 use borrow.Author.Tests.{eqb-true, eqb-false, eq-eqb, le-ltb, not-false}
-use Rattle.laws.specs.Lists.{all, records}
+use Rattle.laws.specs.Lists.{all}
 use Rattle.laws.proofs.Booleans.{left-of, right-of, both-of}
 use Rattle.laws.proofs.Refusals.{not-due}
 use Rattle.numbers.specs.Kinds.{ASSOCIATE-RQ}
-use Rattle.numbers.specs.Lengths.{RECORD}
+use Rattle.numbers.specs.Lengths.{BUFFER, RECORD}
 use Rattle.numbers.specs.Refusals.{NOT-REFUSED, NO-SUCH-PDU}
 use Rattle.numbers.specs.Results.{ACCEPTED}
 use Rattle.octets.specs.Octets.{odd}
 use Rattle.octets.specs.Put.{front}
 use Rattle.octets.proofs.PutLaws.{front-start}
 use Rattle.names.specs.Name.{nameOk}
-use Rattle.titles.specs.Title.{titleOk}
 use Rattle.items.specs.Wire.{itemBytes, itemsBytes}
 use Rattle.items.proofs.WireLaws.{item-length}
-use Rattle.judging.specs.Pdu.{kindOf, calledOf, callingOf}
-use Rattle.judging.proofs.KindLaws.{kind-whole, whole-length, whole-limit, request-long}
+use Rattle.user_items.specs.Sent.{User, userGood}
+use Rattle.judging.specs.Pdu.{kindOf}
+use Rattle.judging.proofs.KindLaws.{request-long}
 use Rattle.sheets.specs.Contexts.{Context, Answered, contextId, contextOk, contextsOk}
 use Rattle.sheets.specs.Sheet.{recordId, recordsOf, goesOn, others, start, sheetRuns, contextsIn, answersIn, proposalOk, siteOk}
 use Rattle.sheets.proofs.Inverse.{proposal-contexts}
 use Rattle.reading.specs.Associate.{proposed, applicationOf, sheetIn, fieldsOf, associateRefusal, associateOf, filling, Read}
 use Rattle.reading.specs.declared.associate.Associate.{Associate}
 use Rattle.reading.proofs.Meaning.{refusal-is, request-sheet-good, request-sheet-back, request-records, application-stands}
-use Rattle.writing.specs.Fields.{AcFields, rqGood, acGood}
-use Rattle.writing.specs.Wire.{contextBody, answerBody, rqPdu, acPdu}
-use Rattle.writing.specs.Form.{rqForm, acForm, formRefusal}
+use Rattle.writing.specs.Fields.{AcFields, acGood}
+use Rattle.writing.specs.Cases.{added}
+use Rattle.writing.specs.Wire.{contextBody, answerBody, acPdu}
+use Rattle.writing.specs.Form.{acForm, formRefusal}
 use Rattle.writing.proofs.FormLaws.{refusal-0}
+use Rattle.writing.proofs.Case3.{user-long, associate-long}
 use Rattle.sheet_room.proofs.Distinct.{ids-most}
 use Rattle.sheet_room.proofs.Room.{records-bytes}
-use Rattle.round_trips.specs.Trips.{rqRead}
-use Rattle.round_trips.proofs.PduTrip.{associate-long}
-use Rattle.round_trips.proofs.Again.{rq-again-good, rq-again-short}
+use Rattle.round_trips.proofs.UserAgain.{part-bytes}
+use Rattle.round_trips.proofs.Again.{rq-name, rq-room, ac-allowed}
 use Rattle.round_trips.proofs.SentTrip.{sent-ac}
 use Rattle.choosing.specs.Choice.{Liked, siteIn, chosen, chosenFor}
 use Rattle.choosing.specs.Call.{chooseRefusal}
@@ -109,20 +110,20 @@ never-short proposal site room b p s h =
     rw (p, s, le-ltb room (RECORD * length (contextsIn proposal)) (omega arith))
 
 -- ---- what was read is the RQ's own sheet, a good proposal
-module _ (pdu sheet : List ℕ) (f : Associate) (sheet′ : List ℕ) (w : Read ASSOCIATE-RQ pdu sheet f sheet′) (z : f .refusal ≡ NOT-REFUSED) where
-  none-due : associateRefusal ASSOCIATE-RQ pdu (length sheet) ≡ NOT-REFUSED
-  none-due = sym (refusal-is ASSOCIATE-RQ pdu sheet f sheet′ w) ∙ z
+module _ (pdu sheet roles : List ℕ) (f : Associate) (sheet′ roles′ : List ℕ) (w : Read ASSOCIATE-RQ pdu sheet roles f sheet′ roles′) (z : f .refusal ≡ NOT-REFUSED) where
+  none-due : associateRefusal ASSOCIATE-RQ pdu (length sheet) (length roles) ≡ NOT-REFUSED
+  none-due = sym (refusal-is ASSOCIATE-RQ pdu sheet roles f sheet′ roles′ w) ∙ z
 
   is-request : kindOf pdu ≡ ASSOCIATE-RQ
   is-request = eqb-true _ _ (not-false (eqb (kindOf pdu) ASSOCIATE-RQ) (not-due (not (eqb (kindOf pdu) ASSOCIATE-RQ)) NO-SUCH-PDU _ (λ e. omega arith) none-due .0))
 
   fields-are : f ≡ fieldsOf ASSOCIATE-RQ pdu
   unfolding associateOf
-  fields-are = w .answer ∙ simp (eq-eqb (associateRefusal ASSOCIATE-RQ pdu (length sheet)) NOT-REFUSED none-due)
+  fields-are = w .answer ∙ simp (eq-eqb (associateRefusal ASSOCIATE-RQ pdu (length sheet) (length roles)) NOT-REFUSED none-due)
 
   filled-with : sheet′ ≡ front sheet (sheetIn ASSOCIATE-RQ pdu)
   unfolding filling
-  filled-with = w .sheet ∙ simp (eq-eqb (associateRefusal ASSOCIATE-RQ pdu (length sheet)) NOT-REFUSED none-due)
+  filled-with = w .sheet ∙ simp (eq-eqb (associateRefusal ASSOCIATE-RQ pdu (length sheet) (length roles)) NOT-REFUSED none-due)
 
   pub read-given-on : recordsIn (f .records) sheet′ ≡ sheetIn ASSOCIATE-RQ pdu
   read-given-on =
@@ -136,46 +137,33 @@ module _ (pdu sheet : List ℕ) (f : Associate) (sheet′ : List ℕ) (w : Read 
   read-never-bad = ap proposalOk read-given-on ∙ request-sheet-good pdu is-request
 
 -- ---- the three calls, one after another
-bytes-take : (k : ℕ) (s : List ℕ) → Bytes s → Bytes (take k s)
-bytes-take k s b i = go (decLt i k)
-  where
-    go : Dec (i < k) → getD (take k s) i 0 < 256
-    go (yes h) = rw (getD-take k s i 0 h) (b i)
-    go (no h) =
-        let l : length (take k s) ≤ i = omega (arith, length-take k s) in
-        rw (List·getD-eq-default (take k s) 0 l) (omega arith)
-
-module _ (pdu site answer′ : List ℕ) (f : Associate) (c : Chosen) (h : Chain pdu site answer′ f c) where
+module _ (pdu site answer′ : List ℕ) (f : Associate) (u : User) (c : Chosen) (h : Chain pdu site answer′ f c) (g : userGood u ≡ true) where
   abbrev proposal : List ℕ
   proposal = recordsIn (f .records) (h .sheet′)
 
   abbrev response : AcFields
-  response = responseOf pdu f c answer′
+  response = responseOf pdu f u c answer′
 
   request-is : kindOf pdu ≡ ASSOCIATE-RQ
-  request-is = is-request pdu (h .sheet) f (h .sheet′) (h .read) (h .request)
+  request-is = is-request pdu (h .sheet) (h .roles) f (h .sheet′) (h .roles′) (h .read) (h .request)
 
   proposal-good : proposalOk proposal ≡ true
-  proposal-good = read-never-bad pdu (h .sheet) f (h .sheet′) (h .read) (h .request)
+  proposal-good = read-never-bad pdu (h .sheet) (h .roles) f (h .sheet′) (h .roles′) (h .read) (h .request)
 
   not-refused : c .refusal ≡ NOT-REFUSED
   not-refused =
       written.refusal-is proposal site (h .answer) c answer′ (h .chose)
-      ∙ never-short proposal site (length (h .answer)) (bytes-take (RECORD * f .records) (h .sheet′) (h .bytes)) proposal-good (h .good) (h .room)
+      ∙ never-short proposal site (length (h .answer)) (part-bytes 0 (RECORD * f .records) (h .sheet′) (h .bytes)) proposal-good (h .good) (h .room)
 
   -- the answers that are given on: those that were chosen for what the RQ proposes
   given-answers : answersIn (response .sheet) ≡ chosenFor (siteIn site) (proposed pdu)
   given-answers =
       ap answersIn (written.given-on proposal site (h .answer) c answer′ (h .chose) not-refused)
       ∙ (written.sheet-answers proposal site proposal-good
-      ∙ ap (chosenFor (siteIn site)) (ap contextsIn (read-given-on pdu (h .sheet) f (h .sheet′) (h .read) (h .request)) ∙ request-sheet-back pdu request-is))
+      ∙ ap (chosenFor (siteIn site)) (ap contextsIn (read-given-on pdu (h .sheet) (h .roles) f (h .sheet′) (h .roles′) (h .read) (h .request)) ∙ request-sheet-back pdu request-is))
 
   application-is : response .application ≡ applicationOf pdu
-  application-is = let e = fields-are pdu (h .sheet) f (h .sheet′) (h .read) (h .request) in rw e (application-stands pdu)
-
-  application-good : nameOk (applicationOf pdu) ≡ true
-  unfolding rqGood
-  application-good = left-of _ (proposalOk (sheetIn ASSOCIATE-RQ pdu)) (right-of (titleOk (callingOf pdu)) _ (right-of (titleOk (calledOf pdu)) _ (rq-again-good pdu request-is)))
+  application-is = let e = fields-are pdu (h .sheet) (h .roles) f (h .sheet′) (h .roles′) (h .read) (h .request) in rw e (application-stands pdu)
 
   echoed-64 : length (response .echoed) ≡ 64
   echoed-64 = let n = request-long pdu request-is in length-take-le 64 (drop 10 pdu) (omega (arith, length-drop 10 pdu))
@@ -184,37 +172,36 @@ module _ (pdu site answer′ : List ℕ) (f : Associate) (c : Chosen) (h : Chain
   unfolding acGood
   response-good =
       both-of _ _ (eq-eqb (length (response .echoed)) 64 echoed-64)
-      (both-of _ _ (ap nameOk application-is ∙ application-good) (written.given-good proposal site (h .answer) c answer′ (h .chose) not-refused))
+      (both-of _ _ (ap nameOk application-is ∙ rq-name pdu request-is) (both-of _ _ g (written.given-good proposal site (h .answer) c answer′ (h .chose) not-refused)))
 
-  -- the AC is no longer than the RQ
-  pub response-short : length (acForm response .pdu) ≤ length pdu
-  unfolding acForm acPdu rqForm rqPdu
+  -- the AC is no longer than the RQ and what is added to the maximum length
+  pub response-short : length (acForm response .pdu) ≤ length pdu + added u
+  unfolding acForm acPdu
   response-short =
-      let n = request-long pdu request-is in
-      let a = title-16 10 (omega arith) in
-      let b = title-16 26 (omega arith) in
-      let d = length-append (calledOf pdu) (callingOf pdu ++ replicate 32 0) in
-      let e = length-append (callingOf pdu) (replicate 32 0) in
-      let x = associate-long (acPdu response) echoed-64 refl in
-      let y = associate-long (rqPdu (rqRead pdu)) (omega arith) refl in
+      let x = associate-long (acPdu response) in
+      let v = user-long u in
+      let n = echoed-64 in
       let i = ap length application-is in
       let j = ap (λ (l : List Answered). length (itemsBytes 0x21 (map answerBody l))) given-answers in
-      let k = ap (λ (l : List Context). length (itemsBytes 0x20 (map contextBody l))) (request-sheet-back pdu request-is) in
       let m = answers-shorter (siteIn site) (proposed pdu) in
-      let s = rq-again-short pdu request-is in
+      let r = rq-room pdu request-is in
       omega arith
-    where
-      title-16 : (at : ℕ) → at + 16 ≤ length pdu → length (take 16 (drop at pdu)) ≡ 16
-      title-16 at l = length-take-le 16 (drop at pdu) (omega (arith, length-drop at pdu))
 
-  response-sent : (room : ℕ) → length pdu ≤ room → formRefusal (acForm response) room ≡ NOT-REFUSED
+  response-sent : (room : ℕ) → length pdu + added u ≤ BUFFER → length pdu + added u ≤ room → formRefusal (acForm response) room ≡ NOT-REFUSED
   unfolding acForm
-  response-sent room l =
-      let w = kind-whole pdu ASSOCIATE-RQ request-is (λ e. omega arith) in
-      let a = whole-length pdu w in
-      let b = whole-limit pdu w in
-      let s = response-short in
-      refusal-0 (acForm response) room response-good (omega arith) (omega arith)
+  response-sent room b l = let s = response-short in refusal-0 (acForm response) room response-good (omega arith) (omega arith)
 
-  pub answering : Answering pdu site answer′ f c
-  answering = record { chosen-all = not-refused; sent = response-sent; says = λ room l. sent-ac room response (response-sent room l) .answers ∙ given-answers }
+  -- whatever the RQ's length, there are at most 128 answers
+  answers-128 : length (answersIn (response .sheet)) ≤ 128
+  unfolding chosenFor
+  answers-128 =
+      let m = contexts-most proposal (part-bytes 0 (RECORD * f .records) (h .sheet′) (h .bytes)) proposal-good in
+      let l = ap length given-answers ∙ length-map (proposed pdu) (chosen (siteIn site)) in
+      let k = ap length (ap contextsIn (read-given-on pdu (h .sheet) (h .roles) f (h .sheet′) (h .roles′) (h .read) (h .request)) ∙ request-sheet-back pdu request-is) in
+      omega arith
+
+  response-any : (room : ℕ) → added u ≤ 6508 → BUFFER ≤ room → formRefusal (acForm response) room ≡ NOT-REFUSED
+  response-any room a b = ac-allowed response response-good answers-128 a room b
+
+  pub answering : Answering pdu site answer′ f u c
+  answering = record { chosen-all = not-refused; sent = response-sent; sent-any = response-any; says = λ room z. sent-ac room response z .answers ∙ given-answers }
