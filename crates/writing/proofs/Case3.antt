@@ -141,7 +141,7 @@ module _ (u : User) (g : userGood u ≡ true) (h : 155 + added u ≤ LONGEST) wh
       }
 
 -- ---- a class UID that is a name, and nothing else: plus 4 + n
-class-added : (class : List ℕ) → added (onlyClass class) ≡ 4 + length class
+pub class-added : (class : List ℕ) → added (onlyClass class) ≡ 4 + length class
 unfolding added onlyClass rolesIn roleRecords rolesSize
 class-added class = omega arith
 
@@ -150,7 +150,7 @@ module _ (class : List ℕ) (k : nameOk class ≡ true) where
   unfolding userGood onlyClass roleSheetOk roleRecords rolesIn rolesOk differ countOk
   class-good = rw k
 
-  only-class : Case3 (onlyClass class)
+  pub only-class : Case3 (onlyClass class)
   only-class = case-3 (onlyClass class) class-good (let l = name-short class k in let e = class-added class in omega arith)
 
   pub class-rq : be32 (rqForm (asking (onlyClass class)) .pdu) 2 ≡ 155 + (4 + length class)
