@@ -11,7 +11,7 @@ const WORDS: [&str; 4] = ["A takes", "r takes", "K takes", "not taken"];
 impl Generator {
     /// An AC with refused contexts, read, judged or received; two in five have a fault that is still found.
     pub fn refused_contexts(&mut self) {
-        let call = self.random.pick(&[0, 0, 0, 0, 1, 1, 1, 1, 1, 1, 2, 2]);
+        let call = self.random.pick(&[0, 0, 0, 0, 1, 1, 1, 1, 1, 1, 2, 2, 2]);
         let taken = self.random.chance(60);
         let word = if taken { WORDS[call] } else { WORDS[3] };
         let mut plan = plan_with_refused(word, &mut self.random, &mut self.marks);

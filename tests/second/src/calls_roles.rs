@@ -5,6 +5,7 @@ use crate::fields::sheet_record;
 use crate::generate::{ac_words, hex, pairs, rq_words, Generator};
 use crate::given::{role_of, some_role};
 use crate::make::{good_plan, name_of_length, Node};
+use crate::pdus::set_length;
 use crate::random::Random;
 use crate::subitems::{good_version_name, role, role_body};
 use crate::user::{Given, ROLE};
@@ -47,7 +48,7 @@ impl Generator {
             2 => self.full_of_roles("2", over, false),
             3 => self.full_of_roles("a", over, false),
             4 => {
-                let call = self.random.pick(&["1", "c", "2", "a"]);
+                let call = self.random.pick(if over == 0 { &["1", "c"] } else { &["2", "a"] });
                 self.full_of_roles(call, 1, true);
             }
             5 | 6 => self.read_hundreds(variant - 4, over),
@@ -56,7 +57,8 @@ impl Generator {
             9 => self.repeated_among_hundreds(over == 1),
             10 => self.as_many_as_fit(over == 1),
             11 => self.send_most(over),
-            _ => self.longest_line(over == 1),
+            _ if over == 0 => self.longest_line(),
+            _ => self.other_pdu(),
         }
     }
 
@@ -205,19 +207,8 @@ impl Generator {
         self.send_user(call, kind, &user, 16_390);
     }
 
-    /// Seldom a line of more than 270,000 bytes, which sends both sheets at their longest; more seldom one above 480,000.
-    fn longest_line(&mut self, over: bool) {
-        if over || !self.random.chance(30) {
-            let call = self.random.pick(&["Q", "A"]);
-            self.mark("roles: none, and no valid PDU");
-            self.say(format!("{} {} 0 0", call, hex(&write::release_rq())));
-            if self.random.chance(3) {
-                self.mark("form: line above 480,000 bytes");
-                self.say(format!("E 41 {}", hex(&[0x41; 241_000])));
-                self.follow_up();
-            }
-            return;
-        }
+    /// A line of more than 270,000 bytes, which sends both sheets at their longest.
+    fn longest_line(&mut self) {
         self.mark("form: line above 270,000 bytes");
         let mut user = Given::class_alone(b"1.2");
         user.roles = short_names(MOST, &mut self.random).iter().flat_map(|uid| role_of(uid, 0, 1)).collect();
@@ -234,6 +225,18 @@ impl Generator {
         nine.output_length = 16_390;
         self.say(format!("c {} {}", nine.text(), rq_words(&contents)));
     }
+
+    /// No sheets for a PDU of another kind; seldom behind it a line that is too long.
+    fn other_pdu(&mut self) {
+        let call = self.random.pick(&["Q", "A"]);
+        self.mark("roles: no RQ or AC");
+        self.say(format!("{} {} 0 0", call, hex(&write::release_rq())));
+        if self.random.chance(3) {
+            self.mark("form: line above 480,000 bytes");
+            self.say(format!("E 41 {}", hex(&[0x41; 241_000])));
+            self.follow_up();
+        }
+    }
 }
 
 /// A PDU whose last item is its 50H, with more sub-items in it.
@@ -245,6 +248,6 @@ fn with_more_user_information(bytes: &[u8], more: &[u8]) -> Vec<u8> {
     let mut longer = [bytes, more].concat();
     let inside = (longer.len() - place - 4) as u16;
     longer[place + 2..place + 4].copy_from_slice(&inside.to_be_bytes());
-    crate::pdus::set_length(&mut longer);
+    set_length(&mut longer);
     longer
 }

@@ -1,6 +1,7 @@
 //! Calls with user information for the generator: each edge of a 50H read, judged or received, and each of one sent.
 
 use crate::contents::{good_ac_contents, good_rq_contents, RqContents};
+use crate::fields::rooms;
 use crate::generate::{hex, pairs, rq_words, Generator};
 use crate::given::{good_said, GIVEN};
 use crate::make::{good_plan, Node};
@@ -49,33 +50,44 @@ impl Generator {
         let name = change_user(&mut plan, edge as usize, &mut self.random);
         self.mark(&format!("user: {}", name));
         let bytes = plan.bytes();
-        match self.random.below(10) {
-            0..=5 => self.read_user(kind, &bytes),
-            6..=8 if is_framed(&bytes) => self.receive_user(kind, &bytes),
+        let valid = rooms(&bytes).is_some();
+        let manner = self.random.below(10);
+        // What a valid one says shows in its fields alone.
+        if valid || manner < 5 {
+            self.read_user(kind, &bytes);
+        }
+        match manner {
+            0..=4 => {}
+            5..=6 if is_framed(&bytes) => self.receive_user(kind, &bytes),
+            7..=8 if is_framed(&bytes) && !valid => self.receive_user(kind, &bytes),
+            9 if valid => {}
             _ => {
                 self.say(format!("K {}", hex(&bytes)));
             }
         }
     }
 
-    /// Mostly with room enough in both sheets.
+    /// With room enough in both sheets.
     fn read_user(&mut self, kind: u8, bytes: &[u8]) {
         let call = if kind == 1 { "Q" } else { "A" };
         let (mut room, mut roles) = self.needed_rooms(bytes);
-        match self.random.below(8) {
+        match self.random.below(6) {
             0 => room += self.random.pick(&[1, 68, 200]),
             1 => roles += self.random.pick(&[1, 67, 68, 132]),
-            2 => roles -= self.random.pick(&[1, 68]).min(roles),
             _ => {}
         }
         self.say(format!("{} {} {} {}", call, hex(bytes), room, roles));
     }
 
-    /// Mostly in the state that waits for it; in others a valid one and an invalid one are told apart by the ABORT.
+    /// Mostly in the state that waits for it; in others a valid one and an invalid one are told apart by the ABORT. Where
+    /// the output is too short for that, it is judged.
     fn receive_user(&mut self, kind: u8, bytes: &[u8]) {
         let waits = if kind == 1 { 2 } else { 5 };
         let state = self.random.pick(&[waits, waits, waits, waits, 3, 6, 13]);
         self.received_in(state, false, bytes);
+        if self.replay.last.refusal != 0 {
+            self.say(format!("K {}", hex(bytes)));
+        }
     }
 
     /// Some contexts and some roles, each sheet with its own room: exact, more, or short of a byte, a record or all.
@@ -98,7 +110,8 @@ impl Generator {
         self.say(format!("{} {} {} {}", call, hex(&bytes), rooms.0, rooms.1));
     }
 
-    /// Contents with a rule of the user information kept or broken, written or sent by the machine.
+    /// Contents with a rule of the user information kept or broken, written or sent by the machine; where the output is
+    /// too short, once more.
     pub fn user_to_be_sent(&mut self) {
         let (edge, kind) = self.givens.take();
         let twist: &Twist<_> = &GIVEN[edge as usize];
@@ -110,10 +123,16 @@ impl Generator {
             let mut contents = good_rq_contents(&mut self.random, &mut self.marks);
             contents.user = said.given();
             self.send_proposal(if by_machine { "c" } else { "1" }, &contents);
+            while self.replay.last.refusal == 2 {
+                self.send_proposal("1", &contents);
+            }
         } else {
             let mut contents = good_ac_contents(&mut self.random, &mut self.marks);
             contents.user = said.given();
             self.send_answer(if by_machine { "a" } else { "2" }, &contents);
+            while self.replay.last.refusal == 2 {
+                self.send_answer("2", &contents);
+            }
         }
     }
 

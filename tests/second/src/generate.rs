@@ -2,6 +2,7 @@
 
 use std::collections::VecDeque;
 
+use crate::calls_bad::form_turns;
 use crate::calls_roles::role_turns;
 use crate::calls_titles::title_turns;
 use crate::calls_user::{given_turns, room_turns, user_turns};
@@ -98,15 +99,15 @@ pub static BRANCHES: &[Branch] = &[
     Branch { name: "write ABORT", weight: 40, run: Generator::write_abort },
     Branch { name: "C with long sheets", weight: 5, run: Generator::call_c_long },
     Branch { name: "many records", weight: 4, run: Generator::many_records },
-    Branch { name: "AC with refused contexts", weight: 240, run: Generator::refused_contexts },
-    Branch { name: "answer with refused records", weight: 130, run: Generator::refused_records },
-    Branch { name: "user information", weight: 290, run: Generator::user_information },
-    Branch { name: "two sheets", weight: 36, run: Generator::two_sheets },
-    Branch { name: "user information to be sent", weight: 168, run: Generator::user_to_be_sent },
-    Branch { name: "many roles", weight: 24, run: Generator::many_roles },
+    Branch { name: "AC with refused contexts", weight: 265, run: Generator::refused_contexts },
+    Branch { name: "answer with refused records", weight: 140, run: Generator::refused_records },
+    Branch { name: "user information", weight: 310, run: Generator::user_information },
+    Branch { name: "two sheets", weight: 42, run: Generator::two_sheets },
+    Branch { name: "user information to be sent", weight: 175, run: Generator::user_to_be_sent },
+    Branch { name: "many roles", weight: 28, run: Generator::many_roles },
     Branch { name: "limit of 16,384 in few words", weight: 36, run: Generator::limit_in_few_words },
-    Branch { name: "limit of 16,384 in full", weight: 20, run: Generator::limit_in_full },
-    Branch { name: "bad form", weight: 26, run: Generator::bad_form },
+    Branch { name: "limit of 16,384 in full", weight: 25, run: Generator::limit_in_full },
+    Branch { name: "bad form", weight: 46, run: Generator::bad_form },
 ];
 
 /// Lists that are walked through in turn, so that nothing is left out.
@@ -157,6 +158,7 @@ pub struct Generator {
     pub givens: Turns,
     pub two_rooms: Turns,
     pub role_counts: Turns,
+    pub forms: Turns,
     pub calls: VecDeque<Call>,
 }
 
@@ -196,6 +198,7 @@ impl Generator {
             givens: own_order(given_turns()),
             two_rooms: own_order(room_turns()),
             role_counts: own_order(role_turns()),
+            forms: own_order(form_turns()),
             calls: VecDeque::new(),
         };
         generator.first_calls();

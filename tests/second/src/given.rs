@@ -1,5 +1,6 @@
 //! User information to be sent, for the generator: good contents, and each rule of theirs just kept or just broken.
 
+use crate::fields::RECORD;
 use crate::make::{bad_name, good_name, name_of_length};
 use crate::marks::Marks;
 use crate::random::Random;
@@ -212,6 +213,10 @@ pub static GIVEN: &[Twist<Said>] = &[
     outside("roles, a part record alone", |s, r| {
         s.roles.clear();
         s.tail = some_role(b"1.2.3", r)[..r.pick(&[1, 9, 67])].to_vec();
+    }),
+    outside("roles, as many bytes as a context", |s, r| {
+        s.roles = some_roles(&names_apart(1, r), r);
+        s.tail = vec![0; RECORD - ROLE];
     }),
     outside("roles, UID length 0, field zero", |s, r| s.with_role(r, |record, _| *record = role_naming(b""))),
     outside("roles, UID length 0, a UID in the field", |s, r| s.with_short(r, |record, _| record[0] = 0)),

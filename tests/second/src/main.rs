@@ -37,10 +37,16 @@ mod tests_refused;
 mod tests_titles;
 #[cfg(test)]
 mod tests_user;
+#[cfg(test)]
+mod tests_user_wrong;
 mod twists;
 mod user;
 mod valid;
 mod write;
+#[cfg(test)]
+mod wrong_reading;
+#[cfg(test)]
+mod wrong_sending;
 
 use std::fs::File;
 use std::io::{self, BufRead, BufWriter, Read, Write};

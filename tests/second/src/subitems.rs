@@ -494,6 +494,12 @@ pub static SUB_ITEMS: &[Twist<Inner>] = &[
             insert_anywhere(s, Node::leaf(other, &body), r);
         }
     }),
+    inside("malformed bodies under D2H to D5H", |s, r| {
+        for kind in KINDS {
+            let body = malformed(kind, r);
+            insert_anywhere(s, Node::leaf(kind | 0x80, &body), r);
+        }
+    }),
     inside("good bodies under another type", |s, r| {
         s.retain(|node| node.kind == 0x51);
         for kind in KINDS {
