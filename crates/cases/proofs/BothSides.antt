@@ -13,7 +13,8 @@ use Rattle.titles.specs.Title.{titleOk, trimEnd, titlesEqual}
 use Rattle.titles.specs.Own.{listOk, titleRefusal, known, titlePlace}
 use Rattle.names.proofs.NameLaws.{name-long}
 use Rattle.items.specs.Items.{step, walkIn, walk, filled, bodies, types, only, goodBodies, holds}
-use Rattle.contents.specs.Contents.{subsOk, good20H, one, userGood, good50H, contextGood, topGood, topOk, ids, itemsOk, maximumIn}
+use Rattle.user_items.proofs.Examples.{user-open}
+use Rattle.contents.specs.Contents.{subsOk, good20H, one, contextGood, topGood, topOk, ids, itemsOk, maximumIn}
 use Rattle.pdvs.specs.Data.{pdvStep, pdvsIn, pdvs, pdvOk, pdvsOk}
 use Rattle.reasons.specs.Values.{abortOk}
 use Rattle.judging.specs.Pdu.{whole, requestOk, dataOk, releaseOk, abortPduOk, validAs, kindOf, acceptable, maximumOf}
@@ -43,7 +44,7 @@ unfolding onEvent doing eventOf eventOfKind after entering requestorAfter peerAt
 machine = tt
 
 items : Unit {0}
-unfolding step walkIn walk filled bodies types only goodBodies holds subsOk good20H one userGood good50H contextGood topGood topOk ids itemsOk maximumIn pdvStep pdvsIn pdvs pdvOk pdvsOk among distinct
+unfolding step walkIn walk filled bodies types only goodBodies holds subsOk good20H one user-open contextGood topGood topOk ids itemsOk maximumIn pdvStep pdvsIn pdvs pdvOk pdvsOk among distinct
 items = tt
 
 pdus : Unit {0}

@@ -4,19 +4,18 @@ use Prim.Native.Nat.{ℕ}
 use mathlib.Core.Bool.{true, not, _&&_}
 use mathlib.Core.List.{List, [], _∷_, _++_}
 use mathlib.Core.Path.{_≡_, refl}
-use Rattle.laws.specs.Lists.{all, distinct, differ}
+use Rattle.laws.specs.Lists.{all, distinct}
 use Rattle.laws.specs.Text.{bytes}
 use Rattle.octets.specs.Octets.{be32}
 use Rattle.names.specs.Name.{nameOk}
 use Rattle.items.specs.Wire.{itemBytes}
 use Rattle.items.proofs.Examples.{items-open}
-use Rattle.roles.specs.Role.{roleOk}
-use Rattle.user_items.specs.Kinds.{fourLong, versionOk, uidIn, roleOf, good54H, kept, subItemsOk, good50H}
+use Rattle.user_items.proofs.Examples.{user-open}
 use Rattle.contents.specs.Contents.{one, subsOk, good20H, transferItemOk, good21H, contextGood, topGood, topOk, ids, itemsOk, maximumIn}
 
 -- what the definitions of the items' rules compute with, by one name for an `unfolding` line
 unfoldable pub contents-open : Unit {0}
-unfolding items-open fourLong versionOk uidIn roleOf roleOk good54H kept subItemsOk good50H differ itemsOk topOk subsOk one good20H transferItemOk good21H contextGood topGood ids maximumIn nameOk distinct be32
+unfolding items-open user-open itemsOk topOk subsOk one good20H transferItemOk good21H contextGood topGood ids maximumIn nameOk distinct be32
 contents-open = tt
 
 -- an item of a type whose body is the name "1"

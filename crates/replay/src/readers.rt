@@ -35,6 +35,10 @@ fn fields(call: u8, pdu: &[u8], sheet: &mut [u8], roles: &mut [u8]) -> Associate
     }
 }
 
+fn wide(n: u16) -> u64 {
+    n as u64
+}
+
 // Q PDU SHEETLEN ROLESLEN, A PDU SHEETLEN ROLESLEN
 pub(crate) fn associate(call: u8, line: &[u8], w: &Words) {
     let n = number(w, SECOND) as usize;
@@ -59,8 +63,8 @@ pub(crate) fn associate(call: u8, line: &[u8], w: &Words) {
             f.class_len as u64,
             f.version_name_at as u64,
             f.version_name_len as u64,
-            f.invoked as u64,
-            f.performed as u64,
+            wide(f.invoked),
+            wide(f.performed),
             f.roles as u64,
             digest(&sheet, n),
             digest(&roles, m),
