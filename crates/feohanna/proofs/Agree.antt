@@ -33,7 +33,9 @@ abbrev restBut : Handed → Handed
 restBut h = handed 0 (h .numbers) (h .assoc) [] (h .out)
 
 abbrev others : Associate → Associate
-others f = associate 0 (f .version) (f .«application_at») (f .«application_len») (f .maximum) (f .records)
+others f =
+    associate 0 (f .version) (f .«application_at») (f .«application_len») (f .maximum) (f .records)
+    (f .«class_at») (f .«class_len») (f .«version_name_at») (f .«version_name_len») (f .invoked) (f .performed) (f .roles)
 
 pub feo-raw-receive-agrees : AgreesLent 5 receive.Kinds.ps receive.Kinds.r receive.Reads.Post (λ κs x. handed 0 (now (x .1 .1 .1 .1 .0)) (now (x .0)) (now (x .1 .0)) (now (x .1 .1 .1 .0)))
 feo-raw-receive-agrees κs args a b x y p q = (ap (λ h. h .refusal) (agree p q), ap rest (agree p q))
@@ -41,10 +43,10 @@ feo-raw-receive-agrees κs args a b x y p q = (ap (λ h. h .refusal) (agree p q)
 pub feo-raw-event-agrees : AgreesLent 4 event.Kinds.ps event.Kinds.r event.Reads.Post (λ κs x. handed 0 (now (x .1 .1 .1 .1 .0)) (now (x .0)) [] (now (x .1 .1 .1 .0)))
 feo-raw-event-agrees κs args a b x y p q = (ap (λ h. h .refusal) (agree p q), ap restBut (agree p q))
 
-pub feo-raw-confirm-agrees : AgreesLent 8 confirm.Kinds.ps confirm.Kinds.r confirm.Reads.Post (λ κs x. handed 0 (now (x .1 .1 .1 .1 .1 .1 .1 .0)) (now (x .0)) [] (now (x .1 .1 .1 .1 .1 .1 .0)))
+pub feo-raw-confirm-agrees : AgreesLent 11 confirm.Kinds.ps confirm.Kinds.r confirm.Reads.Post (λ κs x. handed 0 (now (x .1 .1 .1 .1 .1 .1 .1 .1 .1 .1 .1 .1 .0)) (now (x .0)) [] (now (x .1 .1 .1 .1 .1 .1 .1 .1 .1 .1 .1 .0)))
 feo-raw-confirm-agrees κs args a b x y p q = (ap (λ h. h .refusal) (agree p q), ap restBut (agree p q))
 
-pub feo-raw-accept-agrees : AgreesLent 7 accept.Kinds.ps accept.Kinds.r accept.Reads.Post (λ κs x. handed 0 (now (x .1 .1 .1 .1 .1 .1 .0)) (now (x .0)) [] (now (x .1 .1 .1 .1 .1 .0)))
+pub feo-raw-accept-agrees : AgreesLent 10 accept.Kinds.ps accept.Kinds.r accept.Reads.Post (λ κs x. handed 0 (now (x .1 .1 .1 .1 .1 .1 .1 .1 .1 .1 .1 .0)) (now (x .0)) [] (now (x .1 .1 .1 .1 .1 .1 .1 .1 .1 .1 .0)))
 feo-raw-accept-agrees κs args a b x y p q = (ap (λ h. h .refusal) (agree p q), ap restBut (agree p q))
 
 pub feo-raw-reject-agrees : AgreesLent 4 reject.Kinds.ps reject.Kinds.r reject.Reads.Post (λ κs x. handed 0 (now (x .1 .1 .1 .1 .1 .1 .0)) (now (x .0)) [] (now (x .1 .1 .1 .1 .1 .0)))
@@ -56,13 +58,13 @@ feo-raw-send-agrees κs args a b x y p q = (ap (λ h. h .refusal) (agree p q), a
 pub feo-raw-fresh-agrees : AgreesLent 1 fresh.Kinds.ps fresh.Kinds.r fresh.Reads.Post (λ κs x. now (x .0))
 feo-raw-fresh-agrees κs args a b x y p q = (refl, agree p q)
 
-pub feo-raw-read-request-agrees : AgreesLent {L = Associate × List ℕ} 7 read-request.Kinds.ps read-request.Kinds.r read-request.Reads.Post
-    (λ κs x. (associate 0 (now (x .1 .1 .0)) (now (x .1 .1 .1 .0)) (now (x .1 .1 .1 .1 .0)) (now (x .1 .1 .1 .1 .1 .0)) (now (x .1 .1 .1 .1 .1 .1 .0)), now (x .1 .0)))
-feo-raw-read-request-agrees κs args a b x y p q = (ap (λ f. f .refusal) (agree (p .answer) (q .answer)), λ i. (others (agree (p .answer) (q .answer) i), agree (p .sheet) (q .sheet) i))
+pub feo-raw-read-request-agrees : AgreesLent {L = Associate × (List ℕ × List ℕ)} 15 read-request.Kinds.ps read-request.Kinds.r read-request.Reads.Post (λ κs x. (associate 0 (now (x .1 .1 .1 .0)) (now (x .1 .1 .1 .1 .0)) (now (x .1 .1 .1 .1 .1 .0)) (now (x .1 .1 .1 .1 .1 .1 .0)) (now (x .1 .1 .1 .1 .1 .1 .1 .0)) (now (x .1 .1 .1 .1 .1 .1 .1 .1 .0)) (now (x .1 .1 .1 .1 .1 .1 .1 .1 .1 .0)) (now (x .1 .1 .1 .1 .1 .1 .1 .1 .1 .1 .0)) (now (x .1 .1 .1 .1 .1 .1 .1 .1 .1 .1 .1 .0)) (now (x .1 .1 .1 .1 .1 .1 .1 .1 .1 .1 .1 .1 .0)) (now (x .1 .1 .1 .1 .1 .1 .1 .1 .1 .1 .1 .1 .1 .0)) (now (x .1 .1 .1 .1 .1 .1 .1 .1 .1 .1 .1 .1 .1 .1 .0)), (now (x .1 .0), now (x .1 .1 .0))))
+feo-raw-read-request-agrees κs args a b x y p q =
+    (ap (λ f. f .refusal) (agree (p .answer) (q .answer)), λ i. (others (agree (p .answer) (q .answer) i), (agree (p .sheet) (q .sheet) i, agree (p .roles) (q .roles) i)))
 
-pub feo-raw-read-accept-agrees : AgreesLent {L = Associate × List ℕ} 7 read-accept.Kinds.ps read-accept.Kinds.r read-accept.Reads.Post
-    (λ κs x. (associate 0 (now (x .1 .1 .0)) (now (x .1 .1 .1 .0)) (now (x .1 .1 .1 .1 .0)) (now (x .1 .1 .1 .1 .1 .0)) (now (x .1 .1 .1 .1 .1 .1 .0)), now (x .1 .0)))
-feo-raw-read-accept-agrees κs args a b x y p q = (ap (λ f. f .refusal) (agree (p .answer) (q .answer)), λ i. (others (agree (p .answer) (q .answer) i), agree (p .sheet) (q .sheet) i))
+pub feo-raw-read-accept-agrees : AgreesLent {L = Associate × (List ℕ × List ℕ)} 15 read-accept.Kinds.ps read-accept.Kinds.r read-accept.Reads.Post (λ κs x. (associate 0 (now (x .1 .1 .1 .0)) (now (x .1 .1 .1 .1 .0)) (now (x .1 .1 .1 .1 .1 .0)) (now (x .1 .1 .1 .1 .1 .1 .0)) (now (x .1 .1 .1 .1 .1 .1 .1 .0)) (now (x .1 .1 .1 .1 .1 .1 .1 .1 .0)) (now (x .1 .1 .1 .1 .1 .1 .1 .1 .1 .0)) (now (x .1 .1 .1 .1 .1 .1 .1 .1 .1 .1 .0)) (now (x .1 .1 .1 .1 .1 .1 .1 .1 .1 .1 .1 .0)) (now (x .1 .1 .1 .1 .1 .1 .1 .1 .1 .1 .1 .1 .0)) (now (x .1 .1 .1 .1 .1 .1 .1 .1 .1 .1 .1 .1 .1 .0)) (now (x .1 .1 .1 .1 .1 .1 .1 .1 .1 .1 .1 .1 .1 .1 .0)), (now (x .1 .0), now (x .1 .1 .0))))
+feo-raw-read-accept-agrees κs args a b x y p q =
+    (ap (λ f. f .refusal) (agree (p .answer) (q .answer)), λ i. (others (agree (p .answer) (q .answer) i), (agree (p .sheet) (q .sheet) i, agree (p .roles) (q .roles) i)))
 
 pub feo-raw-read-reject-agrees : AgreesLent 4 read-reject.Kinds.ps read-reject.Kinds.r read-reject.Reads.Post
     (λ κs x. reject 0 (now (x .1 .0)) (now (x .1 .1 .0)) (now (x .1 .1 .1 .0)))
