@@ -76,7 +76,8 @@ impl Generator {
             let last = user.roles.len() - 1;
             user.roles[last] = 1;
         }
-        let room = self.random.pick(&[16_390, 16_390, 16_390, 16_389, 17_000]);
+        let by_machine = call == "c" || call == "a";
+        let room = if by_machine { 16_390 } else { self.random.pick(&[16_390, 16_390, 16_389, 17_000]) };
         self.send_user(call, kind, &user, room);
     }
 
@@ -193,7 +194,11 @@ impl Generator {
         }
         let more: Vec<u8> = roles.iter().flat_map(Node::bytes).collect();
         let bytes = with_more_user_information(&bare, &more);
-        self.say(format!("K {}", hex(&bytes)));
+        if self.random.chance(50) {
+            self.received_in(2, false, &bytes);
+        } else {
+            self.say(format!("K {}", hex(&bytes)));
+        }
     }
 
     /// A role sheet of as many records as may be given, and one with bytes behind it.

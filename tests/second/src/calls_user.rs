@@ -93,7 +93,9 @@ impl Generator {
     /// Some contexts and some roles, each sheet with its own room: exact, more, or short of a byte, a record or all.
     pub fn two_sheets(&mut self) {
         let (one, other) = self.two_rooms.take();
-        let kind = self.random.pick(&[1, 2]);
+        // RQs and ACs by turns, each the other time round.
+        let round = (self.two_rooms.next - 1) / self.two_rooms.list.len();
+        let kind = 1 + (one + other + round as u8 % 2) % 2;
         let mut plan = good_plan(kind, &mut self.random);
         let count = self.random.pick(&[1, 1, 2, 3, 5]);
         let roles: Vec<Node> =

@@ -198,11 +198,11 @@ fn put_equal(inner: &mut Inner, kind: u8, body: &[u8], apart: bool, random: &mut
     put_two(inner, kind, [body, body], apart, random);
 }
 
-/// A sub-item of a kind that keeps its rules.
+/// A sub-item of a kind that keeps its rules, and tells something else than none would.
 fn good_of(kind: u8, random: &mut Random) -> Node {
     let body = match kind {
         0x52 => good_name(random),
-        0x53 => counts_body(some_count(random), some_count(random)),
+        0x53 => counts_body(some_count(random), 2),
         0x54 => return role(&good_name(random), random),
         _ => good_version_name(random),
     };
@@ -382,6 +382,18 @@ pub static SUB_ITEMS: &[Twist<Inner>] = &[
         let place = r.below(s.len() + 1);
         s.insert(place, next);
         s.insert(place, Node::leaf(0x54, &body[..body.len() - 2]));
+    }),
+    outside("54H with its UID's end in the next header", |s, r| {
+        let uid = some_role(r).0;
+        let mut body = role_body(&uid, 0, 0);
+        body.truncate(2 + uid.len());
+        body[1] += 2;
+        s.retain(|node| node.kind != 0x54);
+        let mut next = Node::leaf(r.pick(b"123"), &[0; 1][..r.below(2)]);
+        next.reserved = r.pick(b"123");
+        let place = r.below(s.len() + 1);
+        s.insert(place, next);
+        s.insert(place, Node::leaf(0x54, &body));
     }),
     outside("54H whose UID runs into its roles", |s, r| put_role_counting(s, |length| length + 1, r)),
     outside("54H whose UID takes its roles in", |s, r| put_role_counting(s, |length| length + 2, r)),

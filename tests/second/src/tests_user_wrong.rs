@@ -42,6 +42,7 @@ static JUDGING: &[&str] = &[
     "the UID's length is its low byte",
     "the UID's length has its low byte first",
     "roles beyond the 54H are taken",
+    "a 54H may run into what follows",
     "one role is enough",
     "no role is enough",
     "SCU role 2 is taken",
@@ -164,6 +165,8 @@ static READING: &[&str] = &[
     "the role sheet may be a byte short",
     "the rooms are added",
     "the rest of the role sheet is cleared",
+    "2 before 7, by the contexts",
+    "2 before 7, by the roles",
     "the fields are given though refused with 2",
     "counts 1 and 1 are given where refused",
 ];

@@ -129,13 +129,14 @@ fn role_in(pdu: &[u8], at: usize, end: usize, last: usize, wrong: &str) -> Optio
     let behind = match wrong {
         "a 54H not filled is taken" => body.get(2 + count..)?.get(..2)?.to_vec(),
         "a byte behind the roles is taken" if body.len() == 5 + count => body[2 + count..4 + count].to_vec(),
+        "a 54H may run into what follows" if at + 4 + count <= last => pdu[at + 2 + count..at + 4 + count].to_vec(),
         "roles beyond the 54H are taken" if body.len() == 2 + count && end + 2 <= last => pdu[end..end + 2].to_vec(),
         "one role is enough" if body.len() == 3 + count => vec![body[2 + count], 0],
         "no role is enough" if body.len() == 2 + count => vec![0, 0],
         _ if body.len() == 4 + count => body[2 + count..].to_vec(),
         _ => return None,
     };
-    let uid = &body[2..2 + count];
+    let uid = pdu.get(at + 2..at + 2 + count)?;
     let uid_is_good = match wrong {
         "a 54H with an empty UID is taken" if uid.is_empty() => true,
         "a 54H with a UID of 65 bytes is taken" if count == 65 => is_name_of_any_length(uid),
@@ -500,15 +501,27 @@ pub fn fill(lent: &mut [u8], bytes: &[u8]) {
     lent[..length].copy_from_slice(&bytes[..length]);
 }
 
+/// The rooms that one would count before the PDU is judged: a record for each context and each 54H.
+fn least_rooms(pdu: &[u8]) -> Option<(usize, usize)> {
+    let top = items(pdu, 74, pdu.len())?;
+    let contexts = top.iter().filter(|item| item.0 == 0x20 || item.0 == 0x21).count();
+    let user = top.iter().find(|item| item.0 == 0x50)?;
+    let roles = items(pdu, user.1, user.2)?.iter().filter(|item| item.0 == 0x54).count();
+    Some((RECORD * contexts, ROLE * roles))
+}
+
 /// The answer to Q or A.
 pub fn read_answer(asked: u8, pdu: &[u8], rooms: (usize, usize), wrong: &str) -> String {
     let (mut sheet, mut lent) = (vec![0xc3; rooms.0], vec![0xc3; rooms.1]);
     let found = if pdu.first() == Some(&asked) { found_in(pdu, wrong) } else { None };
+    let least = least_rooms(pdu).unwrap_or((0, 0));
     let mut zeros = [0; 12];
     if wrong == "counts 1 and 1 are given where refused" {
         (zeros[9], zeros[10]) = (1, 1);
     }
     let (refusal, numbers) = match found {
+        None if wrong == "2 before 7, by the contexts" && rooms.0 < least.0 => (2, zeros),
+        None if wrong == "2 before 7, by the roles" && rooms.1 < least.1 => (2, zeros),
         None => (7, zeros),
         Some(found) => {
             let roles = role_records(&found.user, wrong).concat();
