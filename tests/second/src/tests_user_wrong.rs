@@ -215,6 +215,7 @@ static SENDING: &[&str] = &[
     "equal UIDs side by side are sent",
     "equal UIDs apart are sent",
     "equal UIDs with other roles are sent",
+    "equal UIDs with equal roles are sent",
     "equal records are sent once",
     "the last UID of a sheet is not compared",
     "the first UID of a sheet is not compared",

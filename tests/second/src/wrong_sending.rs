@@ -117,7 +117,7 @@ const SENT_REPEATS: [&str; 7] = [
     "equal UIDs side by side are sent",
     "equal UIDs apart are sent",
     "equal UIDs with other roles are sent",
-    "",
+    "equal UIDs with equal roles are sent",
     "the last UID of a sheet is not compared",
     "the first UID of a sheet is not compared",
 ];
@@ -141,7 +141,7 @@ fn sent_roles(user: &Given, wrong: &str) -> Result<Vec<Role>, u8> {
         }
     }
     let class_among = wrong == "the class UID counts as a UID of the sheet" && roles.iter().any(|r| r.0 == user.class);
-    if class_among || repeats_in_sheet(&roles, wrong) {
+    if class_among || repeats(&roles, SENT_REPEATS, wrong) {
         return Err(4);
     }
     match wrong {
@@ -152,12 +152,6 @@ fn sent_roles(user: &Given, wrong: &str) -> Result<Vec<Role>, u8> {
         _ => {}
     }
     Ok(roles)
-}
-
-fn repeats_in_sheet(roles: &[Role], wrong: &str) -> bool {
-    // No rule has the empty name but the right one, which has none of these.
-    let rules = SENT_REPEATS.map(|rule| if rule.is_empty() { "none" } else { rule });
-    repeats(roles, rules, wrong)
 }
 
 /// The body of a 54H.
