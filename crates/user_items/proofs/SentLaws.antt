@@ -1,4 +1,4 @@
--- The user information that is sent: a good 50H, which says what was given; its length, and where the class UID and the version name stand in it.
+-- The user information that is sent: a good 50H, which says what was given; where the class UID and the version name stand in it.
 -- Assumes nothing.
 use Prim.Native.Nat.{ℕ, zero, suc, _+_, _-_, _≤_, _<_}
 use native.Mathlib.Omega.{arith}
@@ -21,8 +21,8 @@ use Rattle.roles.specs.Sheet.{rolesIn, roleSheetOk}
 use Rattle.roles.proofs.Inverse.{role-fits, sheet-roles, sheet-each}
 use Rattle.user_items.specs.Kinds.{fourLong, versionOk, uidIn, roleOf, good54H, userKinds, kept, good50H}
 use Rattle.user_items.specs.Said.{classSaid, versionSaid, countSaid, invokedSaid, performedSaid, rolesSaid}
-use Rattle.user_items.specs.Sent.{User, countOk, userGood, roleBody, roleItem, countItems, roleItems, versionItems, subItems, userBytes}
-use Rattle.user_items.proofs.RoleLaws.{body-length, body-uid, body-role, body-good}
+use Rattle.user_items.specs.Sent.{User, countOk, userGood, roleBody, countItems, roleItems, versionItems, subItems, userBytes}
+use Rattle.user_items.proofs.RoleLaws.{body-uid, body-role, body-good}
 use Rattle.user_items.proofs.GoodLaws.{other, few-alike, user-back, kept-back}
 
 -- ---- what good contents have
@@ -148,56 +148,6 @@ module _ (u : User) where
     pub sent-filled : filled (walk (userBytes u)) ≡ true
     unfolding userBytes filled
     sent-filled = ap filled (walk-whole (subItems u) sent-fits) ∙ filled-along (subItems u) done
-
--- ---- how long it is
--- the 54Hs of these roles
-abbrev pub roleSizes : List Role → ℕ
-roleSizes [] = 0
-roleSizes (r ∷ rs) = 8 + length (r .uid) + roleSizes rs
-
--- the 53H and the 55H, where they are sent
-abbrev pub countSize : User → ℕ
-countSize u = cond (plain u) 0 8
-
-abbrev pub versionSize : User → ℕ
-versionSize u = cond (empty (u .version)) 0 (4 + length (u .version))
-
-roles-size : (rs : List Role) → length (sequence (map roleItem rs)) ≡ roleSizes rs
-roles-size [] = refl
-roles-size (r ∷ rs) =
-    let l = sequence-cons (roleItem r) (map roleItem rs) in
-    let b = body-length r in
-    let i = roles-size rs in
-    omega arith
-
-one-size : (k : ℕ) (d : Bool) (b : List ℕ) → length (sequence (cond d [] ((k, b) ∷ []))) ≡ cond d 0 (4 + length b)
-one-size k true b = refl
-one-size k false b = let l = sequence-cons (k, b) [] in omega arith
-
-module _ (u : User) where
-  count-size : length (sequence (countItems u)) ≡ countSize u
-  unfolding countItems
-  count-size = one-size 0x53 (plain u) (two (u .invoked) ++ two (u .performed))
-
-  role-size : length (sequence (roleItems u)) ≡ roleSizes (rolesIn (u .roles))
-  unfolding roleItems
-  role-size = roles-size (rolesIn (u .roles))
-
-  version-size : length (sequence (versionItems u)) ≡ versionSize u
-  unfolding versionItems
-  version-size = one-size 0x55 (empty (u .version)) (u .version)
-
-  pub sent-length : length (userBytes u) ≡ 12 + length (u .class) + countSize u + roleSizes (rolesIn (u .roles)) + versionSize u
-  unfolding userBytes subItems
-  sent-length =
-      let a = sequence-cons (0x51, four LONGEST) ((0x52, u .class) ∷ (countItems u ++ (roleItems u ++ versionItems u))) in
-      let b = sequence-cons (0x52, u .class) (countItems u ++ (roleItems u ++ versionItems u)) in
-      let c = sequence-length (countItems u) (roleItems u ++ versionItems u) in
-      let d = sequence-length (roleItems u) (versionItems u) in
-      let e = count-size in
-      let f = role-size in
-      let k = version-size in
-      omega arith
 
 -- ---- it is good
 module _ (u : User) (g : userGood u ≡ true) (h : length (userBytes u) < 65536) where
