@@ -56,7 +56,7 @@
 #define FEO_PROPOSAL_ROOM (FEO_RECORD_LEN * 3257)
 #define FEO_ANSWER_ROOM (FEO_RECORD_LEN * 128)
 
-/* Room for the role sheet of any A-ASSOCIATE-RQ or -AC: each role takes at least 9 bytes of it. */
+/* Room for the role sheet of any A-ASSOCIATE-RQ or -AC: a role takes 9 bytes of the PDU or more, so it has no more than 1,810. */
 #define FEO_ROLES_ROOM (FEO_ROLE_LEN * 1810)
 
 /* What stands in front of a fragment in a PDV item: four-byte length, ID, control byte. feo_put_pdv writes it. */

@@ -590,44 +590,52 @@ static void every_byte(void)
     }
 }
 
-/* Outside a 50H these types are skipped, whatever is in them: at the top before and behind each item, and inside a context. */
+/* Outside a 50H these types are skipped, malformed or good, beside a 50H with a class UID or without: at the top before and behind each item, and inside a context. */
 static void elsewhere(void)
 {
-    static const char *const rubbish[] = { "\x52\x00\x00\x00", "\x53\x00\x00\x05zzzzz", "\x54\x00\x00\x01z", "\x55\x00\x00\x00", "\x52\x00\x00\x01\x31" };
-    static const size_t lengths[] = { 4, 9, 5, 4, 5 };
+    static const char *const outside[] = {
+        "\x52\x00\x00\x00", "\x53\x00\x00\x05zzzzz", "\x54\x00\x00\x01z", "\x55\x00\x00\x00",
+        "\x52\x00\x00\x01\x31", "\x53\x00\x00\x04\x00\x07\x00\x07", "\x54\x00\x00\x05\x00\x01" "1\x01\x01", "\x55\x00\x00\x01V"
+    };
+    static const size_t lengths[] = { 4, 9, 5, 4, 5, 8, 9, 5 };
     static struct bytes pdu, b, context, subs;
     uint8_t room[FEO_RECORD_LEN];
     struct feo_associate f;
     size_t i, place;
-    unsigned type;
+    unsigned type, bare;
     for (type = 1; type <= 2; type++)
         for (i = 0; i < sizeof lengths / sizeof *lengths; i++)
-            for (place = 0; place < 6; place++) {
+            for (place = 0; place < 12; place++) {
+                bare = place >= 6;
                 b.n = context.n = subs.n = 0;
                 add_fixed(&b, 1);
-                if (place == 0)
-                    add(&b, rubbish[i], lengths[i]);
+                if (place % 6 == 0)
+                    add(&b, outside[i], lengths[i]);
                 add_name(&b, 0x10, APPLICATION);
-                if (place == 1)
-                    add(&b, rubbish[i], lengths[i]);
+                if (place % 6 == 1)
+                    add(&b, outside[i], lengths[i]);
                 add_four(&context, 0x01000000);
-                if (place == 2)
-                    add(&context, rubbish[i], lengths[i]);
+                if (place % 6 == 2)
+                    add(&context, outside[i], lengths[i]);
                 if (type == 1)
                     add_name(&context, 0x30, ECHO_CLASS);
                 add_name(&context, 0x40, IMPLICIT);
-                if (place == 3)
-                    add(&context, rubbish[i], lengths[i]);
+                if (place % 6 == 3)
+                    add(&context, outside[i], lengths[i]);
                 add_item(&b, type == 1 ? 0x20 : 0x21, context.at, context.n);
-                if (place == 4)
-                    add(&b, rubbish[i], lengths[i]);
-                add_user(&b, 5000);
-                if (place == 5)
-                    add(&b, rubbish[i], lengths[i]);
+                if (place % 6 == 4)
+                    add(&b, outside[i], lengths[i]);
+                if (bare) {
+                    add_maximum(&subs, 5000);
+                    add_item(&b, 0x50, subs.at, subs.n);
+                } else
+                    add_user(&b, 5000);
+                if (place % 6 == 5)
+                    add(&b, outside[i], lengths[i]);
                 whole(&pdu, type, &b);
                 memset(&f, 0xEE, sizeof f);
                 CHECK((type == 1 ? feo_read_request : feo_read_accept)(pdu.at, pdu.n, room, sizeof room, NULL, 0, &f) == 0);
-                CHECK(f.class_len == strlen(CLASS_UID) && memcmp(pdu.at + f.class_at, CLASS_UID, f.class_len) == 0);
+                CHECK(bare ? f.class_at == 0 && f.class_len == 0 : f.class_len == strlen(CLASS_UID) && memcmp(pdu.at + f.class_at, CLASS_UID, f.class_len) == 0);
                 CHECK(f.version_name_at == 0 && f.version_name_len == 0 && f.invoked == 1 && f.performed == 1 && f.roles == 0 && f.maximum == 5000);
                 given(of_type[type].reads_in);
                 HEARD(pdu, type == 1 ? FEO_AE_6 : FEO_AE_3, type == 1 ? 3 : 6, 0, 0, pdu.n);

@@ -1,4 +1,4 @@
-// Whether bytes are one of the seven PDUs (document 01, 'Valid PDUs').
+// Whether bytes are one of the seven PDUs (document 01, 'Valid PDUs', as document 02 mends it).
 mod kind;
 
 pub use kind::acceptable;

@@ -1,4 +1,4 @@
--- Records put into the sheet, one body after the other: the loops of filling and of counting.
+-- Records put into a sheet, one body after the other: the loops of filling and of counting.
 -- Assumes nothing.
 use Prim.Native.Nat.{ℕ, _+_, _-_, _*_, _^_, _≤_, _<_}
 use native.Mathlib.Omega.{arith}

@@ -1,4 +1,4 @@
--- Reading an RQ or an AC: what fills the sheet is the sheet of its contexts, and each way through the code.
+-- Reading an RQ or an AC: what fills the two sheets is that of its contexts and that of its roles, and each way through the code.
 -- Assumes nothing.
 use Prim.Native.Nat.{ℕ, _+_, _-_, _*_, _/_, _^_, _≤_, _<_}
 use native.Mathlib.Omega.{arith}

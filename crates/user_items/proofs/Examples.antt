@@ -268,6 +268,12 @@ refused =
     ∷ withSheet (roleSheet (role "" 1 0 ∷ []))
     ∷ withSheet (roleSheet (role "1.2" 2 0 ∷ []))
     ∷ withSheet (hex "03010001312e32" ++ replicate 61 0)
+    -- an SCP role of 2; a UID length of 65; an unused byte behind the name; a length one less than the name; a UID in two neighbours
+    ∷ withSheet (roleSheet (role "1.2" 0 2 ∷ []))
+    ∷ withSheet (hex "41010000" ++ replicate 64 0x31)
+    ∷ withSheet (hex "03010000312e32" ++ (replicate 60 0 ++ (1 ∷ [])))
+    ∷ withSheet (hex "03010000312e322e" ++ replicate 60 0)
+    ∷ withSheet (roleSheet (role "1.2" 1 0 ∷ role "1.2" 0 1 ∷ []))
     ∷ withSheet (roleSheet (role "1.2" 1 0 ∷ role "1.3" 1 0 ∷ role "1.2" 0 1 ∷ []))
     ∷ []
 
