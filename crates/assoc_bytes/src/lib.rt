@@ -1,4 +1,6 @@
 // The association's record as the 16 bytes that a host lends, and what a call on them hands out.
+#![tactic(auto)]
+
 mod assoc;
 mod low;
 

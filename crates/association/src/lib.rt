@@ -1,4 +1,6 @@
 // The association record by value, the refusals that it is tested for, and what an action makes of it.
+#![tactic(auto)]
+
 mod events;
 mod performing;
 mod refusals;

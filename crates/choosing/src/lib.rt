@@ -1,4 +1,6 @@
 // Chooses the answers to a proposal by the sheet that a site keeps, best liked first.
+#![tactic(auto)]
+
 mod answer;
 mod runs;
 

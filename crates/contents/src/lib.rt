@@ -1,4 +1,6 @@
 // The items of an RQ and of an AC: known ones in order, others skipped, and what each known one holds.
+#![tactic(auto)]
+
 mod context;
 mod ids;
 mod order;

@@ -1,4 +1,6 @@
 // The C surface: functions on numbers and byte slices, thin over the calls by value. include/feohanna.h wraps them for a host.
+#![tactic(auto)]
+
 mod calls;
 mod choose;
 mod fresh;

@@ -1,4 +1,6 @@
 // The walk over a holder's items: where an item ends, and what stands in those of a type.
+#![tactic(auto)]
+
 ghost use Rattle.std.specs.Prelude.{◌≡◌, length};
 ghost use Rattle.octets.specs.Slice.{PartOf};
 ghost use Rattle.items.specs.Items.{walk, filled, bodies, first, place, item_end};

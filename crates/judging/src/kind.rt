@@ -1,7 +1,7 @@
 // Which kind of PDU the bytes are.
 ghost use Rattle.std.specs.Prelude.{◌≡◌, true};
 ghost use Rattle.judging.specs.Private.Kinds.{kind_as};
-ghost use Rattle.judging.specs.Pdu.{whole, request_ok, accept_ok, reject_pdu_ok, data_ok, release_ok, abort_pdu_ok, valid_as, kind_of, acceptable as acceptableOf, maximum_of};
+ghost use Rattle.judging.specs.Pdu.{whole, request_ok, accept_ok, reject_pdu_ok, data_ok, release_ok, abort_pdu_ok, valid_as, kind_of, acceptable as acceptable_of, maximum_of};
 
 fn is_whole(pdu: &[u8]) -> bool
     ensures { result ≡ whole pdu.now }
@@ -130,7 +130,7 @@ pub fn kind_of(pdu: &[u8]) -> u8
 
 // Whether the bytes are a valid RQ with version bit 0.
 pub fn acceptable(pdu: &[u8]) -> bool
-    ensures { result ≡ acceptableOf pdu.now }
+    ensures { result ≡ acceptable_of pdu.now }
 {
     if kind_of(pdu) != numbers::ASSOCIATE_RQ {
         return false;

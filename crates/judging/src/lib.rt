@@ -1,4 +1,6 @@
 // Whether bytes are one of the seven PDUs (document 01, 'Valid PDUs', as document 02 mends it).
+#![tactic(auto)]
+
 mod kind;
 
 pub use kind::{acceptable, kind_of, maximum_of};

@@ -1,4 +1,6 @@
 // The entries that are lent the association's record: thin over the calls by value.
+#![tactic(auto)]
+
 ghost use Rattle.std.specs.Prelude.{◌≡◌};
 ghost use Rattle.association.specs.Events.{Local.plain};
 ghost use Rattle.association.specs.Calls.{call, receive_of, local_of};

@@ -1,5 +1,7 @@
 // The listen program: gives transport indication, feeds standard input to its end in pieces, then gives closed. Each action is a line: its name, the state after
 // it and the bytes sent.
+#![tactic(auto)]
+
 ghost use Rattle.std.specs.Prelude.{◌≡◌, cond, ◌+◌, ◌-◌, min};
 ghost use Rattle.association.specs.Events.{Local.plain};
 ghost use Rattle.listen.specs.Window.{unread_of, offer_of, past_of, Filled};

@@ -1,4 +1,6 @@
 // The documents' numbers by name, with the names of specs/: the refusals, the PDUs' kinds, lengths, the results of a context. Actions and events are in `table`. The header has the names of refusals, lengths and results too.
+#![tactic(auto)]
+
 mod kinds;
 mod lengths;
 mod refusals;

@@ -1,4 +1,6 @@
 // Numbers in bytes, high byte first, bytes compared, and bytes put at a place of a lent buffer.
+#![tactic(auto)]
+
 ghost use Rattle.std.specs.Prelude.{◌≡◌, true, cond, eqb, ◌+◌, ◌*◌, ◌≤◌, length, get_or};
 ghost use Rattle.laws.specs.Lists.{same_bytes};
 ghost use Rattle.octets.specs.Octets.{be16, be32, two, four};

@@ -1,4 +1,6 @@
 // The PDV items of a P-DATA-TF.
+#![tactic(auto)]
+
 ghost use Rattle.std.specs.Prelude.{◌≡◌};
 ghost use Rattle.pdvs.specs.Data.{pdvs_ok, pdv_end};
 

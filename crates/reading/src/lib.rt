@@ -1,4 +1,6 @@
 // The fields of a received PDU. Readers know no state: they take the bytes, and judge them first; pdv_at alone looks at no more than its item.
+#![tactic(auto)]
+
 mod associate;
 mod data;
 mod fill;

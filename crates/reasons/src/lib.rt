@@ -1,4 +1,6 @@
 // What an RJ and an ABORT may say: a match on source, then on reason with ranges.
+#![tactic(auto)]
+
 ghost use Rattle.std.specs.Prelude.{◌≡◌};
 ghost use Rattle.reasons.specs.Values.{reject_ok, abort_ok};
 

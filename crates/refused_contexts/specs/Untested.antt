@@ -5,7 +5,7 @@ use Rattle.numbers.specs.Lengths.{LONGEST}
 use Rattle.numbers.specs.Results.{ACCEPTED}
 use Rattle.octets.specs.Octets.{two, four}
 use Rattle.items.specs.Items.{walk, filled}
-use Rattle.judging.specs.Pdu.{kind_of, acceptable as acceptableOf, maximum_of}
+use Rattle.judging.specs.Pdu.{kind_of, acceptable as acceptable_of, maximum_of}
 use Rattle.reading.specs.Associate.{application_of, sub_items_of, associate_of, filling, roles_filling}
 use Rattle.reading.specs.declared.associate.Associate.{Associate}
 
@@ -75,7 +75,7 @@ moved n r =
 pub record Alike (n n' : ℕ) (pdu pdu' : List ℕ) : Type 0 where
   pub kind : kind_of pdu ≡ kind_of pdu'
   -- what the machine asks of an RQ: of an AC never
-  pub acceptable : acceptableOf pdu ≡ acceptableOf pdu'
+  pub acceptable : acceptable_of pdu ≡ acceptable_of pdu'
   pub maximum : maximum_of pdu ≡ maximum_of pdu'
   pub name : application_of pdu ≡ application_of pdu'
   -- and so the class UID, the version name, the operation counts and the roles

@@ -1,4 +1,6 @@
 // Takes calls from standard input, one a line, and prints each answer: docs/REPLAY.md has the form, and how a call is added.
+#![tactic(auto)]
+
 mod buffers;
 mod calls;
 mod digits;

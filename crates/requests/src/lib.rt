@@ -1,4 +1,6 @@
 // The local events: what a host gives an association beside received bytes.
+#![tactic(auto)]
+
 ghost use Rattle.std.specs.Prelude.{◌≡◌};
 ghost use Rattle.user_items.specs.Sent.{user_of};
 ghost use Rattle.writing.specs.Fields.{rq_of, ac_of, reject_of, items_of};

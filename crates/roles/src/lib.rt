@@ -1,4 +1,6 @@
 // The role sheet: whether one may be sent; a record made, and its UID.
+#![tactic(auto)]
+
 mod good;
 mod record;
 

@@ -9,7 +9,7 @@ use Rattle.items.specs.Items.{bodies}
 use Rattle.user_items.specs.Said.{class_said, version_said, invoked_said, performed_said}
 use Rattle.user_items.specs.Sent.{User, user_bytes}
 use Rattle.pdvs.specs.Data.{Pdv, pdvs}
-use Rattle.judging.specs.Pdu.{called_of, calling_of, kind_of, acceptable as acceptableOf}
+use Rattle.judging.specs.Pdu.{called_of, calling_of, kind_of, acceptable as acceptable_of}
 use Rattle.sheets.specs.Contexts.{Answered}
 use Rattle.sheets.specs.Sheet.{contexts_in, answers_in}
 use Rattle.reading.specs.Associate.{proposed, answered, application_of, sub_items_of, sheet_in, roles_sheet_in, associate_of, filling, roles_filling}
@@ -60,7 +60,7 @@ pub record AssociateTrip (kind : ℕ) (application : List ℕ) (u : User) (sheet
 -- an RQ with the fields f
 pub record RqTrip (f : RqFields) (pdu : List ℕ) : Type 0 where
   pub kind : kind_of pdu ≡ ASSOCIATE-RQ
-  pub acceptable : acceptableOf pdu ≡ true
+  pub acceptable : acceptable_of pdu ≡ true
   pub called : called_of pdu ≡ f.called
   pub calling : calling_of pdu ≡ f.calling
   pub contexts : proposed pdu ≡ contexts_in f.sheet

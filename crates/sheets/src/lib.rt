@@ -1,4 +1,6 @@
 // The context sheet: whether a proposal or an answer may be sent, or a site's sheet kept; a record made, and what one record says; the field of a name, which the role sheet has too.
+#![tactic(auto)]
+
 mod good;
 mod ids;
 mod record;

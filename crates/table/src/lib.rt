@@ -1,4 +1,6 @@
 // Table 9-10 of PS3.8 and the actions of Tables 9-6 to 9-9, as numbers.
+#![tactic(auto)]
+
 mod actions;
 mod events;
 mod sent;

@@ -1,4 +1,6 @@
 // Application entity titles: document 01, "Valid PDUs" and "Titles"; document 02, E3.
+#![tactic(auto)]
+
 mod equal;
 mod own;
 mod title;

@@ -1,4 +1,6 @@
 // The sub-items of the user information: which are good, what they say, and what may be sent.
+#![tactic(auto)]
+
 mod body;
 mod kinds;
 mod sent;

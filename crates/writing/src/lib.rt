@@ -1,4 +1,6 @@
 // Writes the ten-byte PDUs and a P-DATA-TF, each in its one form, into a lent output. (`writing_associate` writes an RQ and an AC.)
+#![tactic(auto)]
+
 mod data;
 mod ten;
 

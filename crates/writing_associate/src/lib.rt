@@ -1,4 +1,6 @@
 // Writes an A-ASSOCIATE-RQ and an A-ASSOCIATE-AC, each in its one form, into a lent output.
+#![tactic(auto)]
+
 mod contexts;
 mod item;
 mod pdu;

@@ -8,7 +8,7 @@ use Rattle.items.specs.Items.{Walk, walk, bodies, place}
 use Rattle.contents.specs.Contents.{maximum_in}
 use Rattle.judging.specs.Pdu.{version_of, top_items}
 use Rattle.sheets.specs.Record.{record_of}
-use Rattle.roles.specs.Record.{record_of as roleRecordOf}
+use Rattle.roles.specs.Record.{record_of as role_record_of}
 use Rattle.user_items.specs.Kinds.{role_of}
 use Rattle.user_items.specs.Said.{invoked_said, performed_said}
 use Rattle.reading.specs.Associate.{context_of, answer_of, application_of, application_at, sub_items_of, sub_item_at, sub_item_len, sheet_in, roles_sheet_in}
@@ -37,7 +37,7 @@ context_type kind = cond (eqb kind ASSOCIATE-RQ) 0x20 0x21
 
 -- the record of the role in the body of a 54H
 unfoldable pub role_record : List ℕ → List ℕ
-role_record b = roleRecordOf (role_of b).uid (role_of b).scu (role_of b).scp
+role_record b = role_record_of (role_of b).uid (role_of b).scu (role_of b).scp
 
 -- those of all roles in the body of a 50H
 abbrev pub all_roles : List ℕ → List ℕ
