@@ -3,12 +3,14 @@ SHELL := /bin/bash
 .SHELLFLAGS := -o pipefail -c
 .PHONY: run test lib install uninstall fuzz bench pages
 
+# Proves and builds a program, crates/NAME/out/NAME, holds it to its stored input, and says so; rt's lines are shown where it fails.
+proved = . tests/tools.sh; program $(1)
+
 # Proves, builds and runs the listen program on a real sender's request, and shows its lines.
 run:
-	@rt check listen 2>&1 | grep '^rt: '
-	@echo
+	@$(call proved,listen)
 	@echo "What DCMTK's echoscu sent, through listen: action, state after, bytes sent"
-	@. tests/tools.sh; need_x86; x86_run target/bin/listen < tests/listen/dcmtk_echo.in
+	@. tests/tools.sh; need_x86; x86_run crates/listen/out/listen < tests/listen/dcmtk_echo.in
 
 # The gate: every proof, every must-fail edit, every program, every other test.
 test:
@@ -19,9 +21,9 @@ archive := target/staticlib/libfeohanna.a
 lib: $(archive)
 	@echo "The archive, for x86-64 Linux: $(archive)"
 
-$(archive): crates.txt $(shell find crates)
+$(archive): crates.txt $(shell find crates -mindepth 2 -name out -prune -o -print)
 	@command -v rt >/dev/null || { echo "make lib: there is no rt: install the Rattle kit, and put its folder bin into PATH" >&2; exit 1; }
-	@rt staticlib feohanna 2>&1 | grep -Ev '^fn .*: proved$$|^library |^logic'
+	@. tests/tools.sh; archive target/staticlib/log
 
 # Header, archive, feohanna.pc and manual page: make install PREFIX=/usr/local DESTDIR=
 PREFIX ?= /usr/local
@@ -36,7 +38,7 @@ uninstall:
 
 # Fresh calls by the second program against replay: make fuzz SEED=7 COUNT=100000
 fuzz:
-	@rt check replay 2>&1 | grep '^rt: replay'
+	@$(call proved,replay)
 	@SEED=$(SEED) COUNT=$(COUNT) bash tests/fuzz/run
 
 # Ratios to memcpy, to the second program and to DCMTK, for docs/BENCH.md.

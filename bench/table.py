@@ -8,7 +8,7 @@ import sys
 from page import MACHINE, store
 
 SAID = f"On {MACHINE}: " + (
-    "libfeohanna.a itself." if MACHINE == "x86-64" else "no archive of `rt staticlib`, which is for x86-64, but the LLVM module that it is compiled from, compiled for this machine, for measuring alone."
+    "libfeohanna.a itself." if MACHINE == "x86-64" else "no archive of `rt lib`, which is for x86-64, but the LLVM module that it is compiled from, compiled for this machine, for measuring alone."
 )
 
 GROUPS = {

@@ -31,6 +31,31 @@ need_x86() {
   need qemu-x86_64 qemu-user
 }
 
+# built NAME: sets NAME to the executable of a program, as `rt ci` or `rt run` left it
+built() {
+  local path=crates/$1/out/$1
+  [ -x "$path" ] || { echo "there is no $path: rt run in crates/$1"; exit 1; }
+  printf -v "$1" %s "$path"
+}
+
+# program NAME: proves and builds a program, crates/NAME/out/NAME, and holds what it prints on its stored input to its stored output
+program() {
+  local out=crates/$1/out log
+  log=$(mktemp)
+  mkdir -p "$out"
+  (cd "crates/$1" && rt run <stdin >out/stdout 2>"$log") || { cat "$log"; rm -f "$log"; echo "rt run failed in crates/$1"; exit 1; }
+  rm -f "$log"
+  cmp "$out/stdout" "crates/$1/stdout" || { echo "$1 does not print what its file stdout has"; exit 1; }
+  echo "$1 is proved and built, and printed what its file stdout has: $out/$1"
+}
+
+# archive LOG: proves and builds target/staticlib/libfeohanna.a, with rt's lines in the file named
+archive() {
+  mkdir -p target/staticlib
+  (cd crates/feohanna && rt lib) >"$1" 2>&1 || { cat "$1"; echo "rt lib failed in crates/feohanna"; exit 1; }
+  cp crates/feohanna/out/libfeohanna.a target/staticlib/ || exit 1
+}
+
 # sets CC and CXX
 need_compilers() {
   if [ "$(uname -m)" = x86_64 ]; then

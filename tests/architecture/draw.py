@@ -15,7 +15,7 @@ import sys
 PICTURE = "docs/architecture.svg"
 # in pixels: a box's height, from layer to layer, between boxes, beside a passing arrow, around the picture, a letter's width
 BOX, LAYER, GAP, LANE, MARGIN, LETTER = 30, 88, 30, 20, 24, 8.5
-KIT = {"std", "check", "libc", "io", "os"}
+KIT = {"std"}
 KINDS = {
     "code": ("#dbe9f6", "#2f5f8f", "", 4, "code, with its contracts"),
     "no code": ("#fff8e1", "#a07800", ' stroke-dasharray="5 3"', 4, "no code: definitions and theorems"),
@@ -38,6 +38,7 @@ def read_crates():
                 continue
             if line:
                 name, colon, below = (part.strip() for part in line.partition(":"))
+                name = name.removesuffix(" staticlib")
                 if not colon or not re.fullmatch(r"\w+", name):
                     fail(f"line {number}: not a line NAME: what it is built on")
                 if name in crates:

@@ -3,7 +3,7 @@
     functions.py           holds each to the rules below, and the table of docs/PROMISES.md to the sources
     functions.py --write   writes that table anew
 
-A public function has a contract on its answer and no `requires`, and a theorem FUNCTION-agrees in its crate's proofs.
+A public function has a contract on its answer and no `requires`, and a theorem FUNCTION_agrees in its crate's proofs.
 A wrong answer is an edit that the prover must refuse, crates/NAME/must-fail/FUNCTION.WHAT.edit, of the code (src/), of a contract (an
 `ensures` in src/) or of a definition (specs/), never of a proof: the last two are counted apart from code. A function that decides something
 has two, one of them at least an edit of its code; a thin one, that is one for C or of three lines or fewer, has one.
@@ -28,9 +28,9 @@ def read(path):
 
 def crates():
     for line in read("crates.txt").split("\n"):
-        name = line.split("#")[0].split(":")[0].strip()
-        if name:
-            yield name
+        words = line.split("#")[0].split(":")[0].split()
+        if words:
+            yield words[0]
 
 
 def in_contract(crate, edit):
@@ -41,7 +41,8 @@ def in_contract(crate, edit):
             file = line[6:].strip()
         elif line.startswith("old: ") and file.startswith("src/"):
             before = read(f"crates/{crate}/{file}").split(line[5:])[0]
-            if before.rfind("ensures {") <= before.rfind("\n{\n"):
+            clauses = [found.start() for found in re.finditer(r"\bensures( \w+)? \{", before)]
+            if max(clauses, default=-1) <= before.rfind("\n{\n"):
                 return False
     return True
 
@@ -81,21 +82,21 @@ def rows_of(crate):
         text = read(source)
         for for_c, name, header, body in FUNCTION.findall(text):
             known.add(name)
-            where, dashed = f"{source}: `{name}`", name.replace("_", "-")
+            where, agrees = f"{source}: `{name}`", f"{name}_agrees"
             thin = bool(for_c) or body.count("\n") <= 3
             if "ensures" not in header:
                 wrong.append(f"{where} has no contract on its answer")
             if "requires" in header:
                 wrong.append(f"{where} has a `requires`")
-            if f"{dashed}-agrees" not in proved:
-                wrong.append(f"{where} has no theorem {dashed}-agrees")
+            if agrees not in proved:
+                wrong.append(f"{where} has no theorem {agrees}")
             code = [(what, path) for function, what, path, kind in tried if function == name and kind == "code"]
             specs = [(what, path) for function, what, path, kind in tried if function == name and kind != "code"]
             if len(code) + len(specs) < (1 if thin else 2):
                 wrong.append(f"{where} has {len(code) + len(specs)} wrong answers, of {1 if thin else 2}")
             if not code and not thin:
                 wrong.append(f"{where} has no edit of its code")
-            agreement = f"[`{dashed}-agrees`](../{proved.get(f'{dashed}-agrees', '')})"
+            agreement = f"[`{agrees}`](../{proved.get(agrees, '')})"
             yield f"| {crate} | [`{name}`](../{source}) | {agreement} | {'; '.join(link(*c) for c in code)} | {'; '.join(link(*c) for c in specs)} |"
         if text.count("\npub fn ") + text.count("\npub extern ") + text.startswith("pub fn ") != len(FUNCTION.findall(text)):
             wrong.append(f"{source}: a public function that this test cannot read")

@@ -80,7 +80,7 @@ def main():
     lengths = {name: value for name, value in named(CONSTANT, [LENGTHS]).items() if name != "TEN"}
     header = [(source, named(CONSTANT, [source]), enum(name), f"{HEADER}, {name}") for source, name in ENUMS]
     header.append((LENGTHS, lengths, {name: value for name, value in macros().items() if name in lengths}, HEADER))
-    header.append((ROOM, rooms(ROOM, r"^pub (\w+)-most : .* ≤ 132 \* (\d+)$"), rooms(HEADER, r"^#define FEO_(\w+)_ROOM \(FEO_RECORD_LEN \* (\d+)\)$"), HEADER))
+    header.append((ROOM, rooms(ROOM, r"^pub (\w+)_most : .* ≤ 132 \* (\d+)$"), rooms(HEADER, r"^#define FEO_(\w+)_ROOM \(FEO_RECORD_LEN \* (\d+)\)$"), HEADER))
     for pair in header:
         same(*pair)
         both(*pair)
