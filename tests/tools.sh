@@ -49,10 +49,10 @@ program() {
   echo "$1 is proved and built, and printed what its file stdout has: $out/$1"
 }
 
-# archive LOG: proves and builds target/staticlib/libfeohanna.a, with rt's lines in the file named
+# archive LOG: proves and builds target/staticlib/libfeohanna.a, for every x86-64 processor, with rt's lines in the file named
 archive() {
   mkdir -p target/staticlib
-  (cd crates/feohanna && rt lib) >"$1" 2>&1 || { cat "$1"; echo "rt lib failed in crates/feohanna"; exit 1; }
+  (cd crates/feohanna && rt lib --cpu x86-64) >"$1" 2>&1 || { cat "$1"; echo "rt lib failed in crates/feohanna"; exit 1; }
   cp crates/feohanna/out/libfeohanna.a target/staticlib/ || exit 1
 }
 
