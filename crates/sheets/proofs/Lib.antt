@@ -1,5 +1,6 @@
 pub mod RecordLaws
 pub mod RunLaws
+pub mod LaterLaws
 pub mod GoodLaws
 pub mod Inverse
 pub mod Agree

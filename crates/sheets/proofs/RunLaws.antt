@@ -96,11 +96,11 @@ unfolding start
 ids_new r cs e = rw e
 
 -- ---- the IDs of the records, from a place on
-ids_here : (s : List ℕ) (at : ℕ) → at + 132 ≤ length s → ids_in (drop at s) ≡ get_or s at 0 ∷ ids_in (drop (at + 132) s)
+pub ids_here : (s : List ℕ) (at : ℕ) → at + 132 ≤ length s → ids_in (drop at s) ≡ get_or s at 0 ∷ ids_in (drop (at + 132) s)
 unfolding ids_in
 ids_here s at h = rw (record_here s at h, id_here s at)
 
-ids_none : (s : List ℕ) (at : ℕ) → length s < at + 132 → ids_in (drop at s) ≡ []
+pub ids_none : (s : List ℕ) (at : ℕ) → length s < at + 132 → ids_in (drop at s) ≡ []
 unfolding ids_in
 ids_none s at h = rw (records_none (drop at s) (omega (arith, length-drop at s)))
 
