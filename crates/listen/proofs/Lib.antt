@@ -1,5 +1,3 @@
 mod Feeds
 mod Program
 mod WindowLaws
-mod Local
-mod Again

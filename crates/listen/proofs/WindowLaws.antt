@@ -1,42 +1,16 @@
--- The window on a piece: how `fill`, `offered`, `turns_left` and `past` meet their definitions.
+-- The window on a piece: how `offered`, `turns_left` and `past` meet their definitions.
 -- Assumes nothing.
 use mathlib.Core.Path.{◌≡◌, refl}
 use mathlib.Core.Bool.{Bool, true, false, cond}
 use mathlib.Core.List.{List, []}
 use Prim.Native.Nat.{ℕ, ◌+◌, ◌-◌, ◌<◌, ◌≤◌, min}
 use native.Mathlib.Omega.{arith}
-use lib.Dec.{ltb, eqb}
+use lib.Dec.{ltb}
 use lib.ListN.{length, take, drop}
 use borrow.Author.Rules.{rules}
 use Rattle.laws.proofs.Tests.{follow}
 use Rattle.listen.specs.declared.Window.{Window}
-use Rattle.listen.specs.Window.{offer_of, past_of, Filled}
-
--- ---- fill
-
-pub keeps : (w : Window) (p : List ℕ) → w.at < w.end → Filled w p w p
-keeps w p h =
-    record {
-      turns = refl;
-      window_stays = λ _. refl;
-      piece_stays = λ _. refl;
-      starts = λ k. absurd (omega arith);
-      fits = λ k. absurd (omega arith);
-      ends = λ k. absurd (omega arith);
-    }
-
-pub reads_anew : (w : Window) (p q : List ℕ) (n : ℕ) → w.end ≤ w.at → n ≤ length q → Filled w p (record { at = 0; end = n; ended = eqb n 0; turns = w.turns }) q
-reads_anew w p q n h k =
-    record {
-      turns = refl;
-      window_stays = λ j. absurd (omega arith);
-      piece_stays = λ j. absurd (omega arith);
-      starts = λ _. refl;
-      fits = λ _. k;
-      ends = λ _. refl;
-    }
-
-pub ruleset filling = (rules, keeps, reads_anew)
+use Rattle.listen.specs.Window.{offer_of, past_of}
 
 -- ---- offered
 

@@ -55,21 +55,24 @@ fn is_machine_call(call: u8) -> bool {
 }
 
 // Who answers the others.
-fn plain_call(call: u8, line: &[u8], w: &Words) {
+fn plain_call(rt: &impl Print, call: u8, line: &[u8], w: &Words) {
     match call {
-        b'K' => readers::kind(line, w),
-        b'Q' | b'A' => readers::associate(call, line, w),
-        b'J' => readers::reject(line, w),
-        b'B' => readers::abort(line, w),
-        b'D' => readers::data(line, w),
-        b'P' => readers::pdv_at(line, w),
-        b'T' => readers::title_place(line, w),
-        b'C' => readers::choose(line, w),
-        b'N' => yes_or_no(names::name_ok(bytes(line, w, FIRST))),
-        b'V' => yes_or_no(titles::title_ok(bytes(line, w, FIRST))),
-        b'E' => yes_or_no(titles::titles_equal(bytes(line, w, FIRST), bytes(line, w, SECOND))),
-        b'1'..=b'7' => writers::write(call, line, w),
-        _ => no_call(),
+        b'K' => readers::kind(rt, line, w),
+        b'Q' | b'A' => readers::associate(rt, call, line, w),
+        b'J' => readers::reject(rt, line, w),
+        b'B' => readers::abort(rt, line, w),
+        b'D' => readers::data(rt, line, w),
+        b'P' => readers::pdv_at(rt, line, w),
+        b'T' => readers::title_place(rt, line, w),
+        b'C' => readers::choose(rt, line, w),
+        b'N' => yes_or_no(rt, names::name_ok(bytes(line, w, FIRST))),
+        b'V' => yes_or_no(rt, titles::title_ok(bytes(line, w, FIRST))),
+        b'E' => yes_or_no(
+            rt,
+            titles::titles_equal(bytes(line, w, FIRST), bytes(line, w, SECOND)),
+        ),
+        b'1'..=b'7' => writers::write(rt, call, line, w),
+        _ => no_call(rt),
     }
 }
 
@@ -128,6 +131,7 @@ pub(crate) fn called(line: &mut Line, n: usize, w: &mut Words) -> u8 {
 
 // Prints the answer to a line, and says what is then kept: what a machine call leaves, and as before for any other line.
 pub(crate) fn answered(
+    rt: &impl Print,
     call: u8,
     line: &Line,
     w: &Words,
@@ -136,13 +140,13 @@ pub(crate) fn answered(
     out: &mut [u8],
 ) -> Kept {
     if !is_machine_call(call) {
-        plain_call(call, line, w);
+        plain_call(rt, call, line, w);
         return kept;
     }
     let k = said(w, kept);
     let a = k.assoc;
     let r = machine_call(call, a, line, w, front(gather, k.gather), front(out, k.out));
-    tell(r, digest(gather, k.gather), digest(out, k.out));
+    tell(rt, r, digest(gather, k.gather), digest(out, k.out));
     let assoc = r.assoc;
     Kept {
         assoc,

@@ -1,5 +1,5 @@
 // Lines of standard input, which is read in large pieces.
-use libc::STDIN_FILENO;
+use std::io::Read;
 
 // The longest line that is a call, and the room for one: two bytes stand behind it.
 pub(crate) const LINE: usize = 480000;
@@ -12,12 +12,16 @@ pub(crate) fn no_line() -> Line {
     [0; 480002]
 }
 
-// How many bytes are read at a time, by io::large_buffer.
+// How many bytes are read at a time.
 const READ: usize = 65536;
+
+pub(crate) fn no_bytes() -> [u8; READ] {
+    [0; READ]
+}
 
 // How far a line is taken: its length so far, TOO_LONG for one that is longer than LINE; what is left of the bytes read, from `at` to `end`.
 // At the end of the input `end` is 0.
-#[derive(Drop)]
+#[derive(Clone, Copy)]
 pub(crate) struct Taken {
     pub(crate) len: usize,
     pub(crate) at: usize,
@@ -39,22 +43,34 @@ fn push(line: &mut Line, n: usize, b: u8) -> usize {
     }
 }
 
+// How many bytes a read brings. One that fails ends the input.
+fn brought(input: &mut impl Read, read: &mut [u8; READ]) -> usize {
+    match input.read(read) {
+        Ok(n) => n,
+        Err(_) => 0,
+    }
+}
+
 // Reads once, as much as the buffer holds, where no byte is left.
-fn filled(read: &mut [u8; READ], t: Taken) -> Taken {
+fn filled(input: &mut impl Read, read: &mut [u8; READ], t: Taken) -> Taken {
     if t.at < t.end {
         t
     } else {
-        let got = libc::read(STDIN_FILENO, read);
         Taken {
             len: t.len,
             at: 0,
-            end: io::count(got, read),
+            end: brought(input, read),
         }
     }
 }
 
 // The next line, without its newline. At the end of the input it is what is left, which may be nothing.
-pub(crate) fn next_line(line: &mut Line, read: &mut [u8; READ], last: Taken) -> Taken {
+pub(crate) fn next_line(
+    input: &mut impl Read,
+    line: &mut Line,
+    read: &mut [u8; READ],
+    last: Taken,
+) -> Taken {
     let mut t = Taken {
         len: 0,
         at: last.at,
@@ -62,7 +78,7 @@ pub(crate) fn next_line(line: &mut Line, read: &mut [u8; READ], last: Taken) -> 
     };
     let mut turns = u64::MAX;
     while turns > 0 {
-        let f = filled(read, t);
+        let f = filled(input, read, t);
         t = f;
         let at = f.at;
         if f.end <= at {

@@ -65,22 +65,25 @@ pub(crate) fn machine_call(
 }
 
 // Prints the answer, the record after it, and the digests of both buffers.
-pub(crate) fn tell(r: Answer, gather: u64, out: u64) {
+pub(crate) fn tell(rt: &impl Print, r: Answer, gather: u64, out: u64) {
     let t = r.told;
     let a = r.assoc;
-    print(&[
-        t.refusal as u64,
-        t.action as u64,
-        t.used as u64,
-        t.sent as u64,
-        t.shown as u64,
-        a.state as u64,
-        a.gathered as u64,
-        mark(a.deaf),
-        mark(a.artim),
-        mark(a.requestor),
-        a.peer_max as u64,
-        gather,
-        out,
-    ]);
+    print(
+        rt,
+        &[
+            t.refusal as u64,
+            t.action as u64,
+            t.used as u64,
+            t.sent as u64,
+            t.shown as u64,
+            a.state as u64,
+            a.gathered as u64,
+            mark(a.deaf),
+            mark(a.artim),
+            mark(a.requestor),
+            a.peer_max as u64,
+            gather,
+            out,
+        ],
+    );
 }

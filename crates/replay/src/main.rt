@@ -16,8 +16,9 @@ use buffers::{IN_GATHER, IN_OUTPUT, buffer};
 use calls::{answered, called};
 use lines::{Taken, is_end, next_line};
 
-fn main() {
-    let mut read = io::large_buffer();
+fn main(rt: HostRuntime) {
+    let mut input = rt.stdin();
+    let mut read = lines::no_bytes();
     let mut line = lines::no_line();
     let mut gather = buffer(IN_GATHER);
     let mut out = buffer(IN_OUTPUT);
@@ -30,12 +31,12 @@ fn main() {
     };
     let mut turns = u64::MAX;
     while turns > 0 {
-        let t = next_line(&mut line, &mut read, taken);
+        let t = next_line(&mut input, &mut line, &mut read, taken);
         if is_end(t) {
             break;
         }
         let call = called(&mut line, t.len, &mut words);
-        let k = answered(call, &line, &words, kept, &mut gather, &mut out);
+        let k = answered(&rt, call, &line, &words, kept, &mut gather, &mut out);
         kept = k;
         taken = t;
         turns -= 1;

@@ -7,7 +7,7 @@ use crate::words::{
 use association::Assoc;
 
 // What is kept from one machine call to the next beside the bytes: the record, and how long the gather buffer and the output are.
-#[derive(Drop)]
+#[derive(Clone, Copy)]
 pub(crate) struct Kept {
     pub(crate) assoc: Assoc,
     pub(crate) gather: usize,

@@ -43,9 +43,9 @@ fn sent(call: u8, line: &[u8], w: &Words, out: &mut [u8]) -> Sent {
     }
 }
 
-pub(crate) fn write(call: u8, line: &[u8], w: &Words) {
+pub(crate) fn write(rt: &impl Print, call: u8, line: &[u8], w: &Words) {
     let n = number(w, LENT) as usize;
     let mut out = buffer(IN_OUTPUT);
     let s = sent(call, line, w, front(&mut out, n));
-    print(&[s.refusal as u64, s.count as u64, digest(&out, n)]);
+    print(rt, &[s.refusal as u64, s.count as u64, digest(&out, n)]);
 }

@@ -4,10 +4,10 @@ use Rattle.std.proofs.Common.{◌-◌, ◌<◌, length, rules}
 use Rattle.replay.proofs.buffers.digest.Statement.{statement}
 use Rattle.replay.proofs.buffers.digest.Tie as tie
 
-abbrev invariant_loop : tie.invariant-loop
+abbrev invariant_loop : tie.invariant-loop-i
 invariant_loop buffer n h₀ i₀ h i = h < 4294967291
 
-abbrev decreases_loop : tie.decreases-loop
+abbrev decreases_loop : tie.decreases-loop-i
 decreases_loop buffer n h₀ i₀ h i = length buffer - i
 
 pub digest_spec : {M : Type 1} → statement M

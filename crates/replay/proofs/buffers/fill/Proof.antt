@@ -4,10 +4,10 @@ use Rattle.std.proofs.Common.{◌≡◌, ◌-◌, length, rules}
 use Rattle.replay.proofs.buffers.fill.Statement.{statement}
 use Rattle.replay.proofs.buffers.fill.Tie as tie
 
-abbrev invariant_loop : tie.invariant-loop
+abbrev invariant_loop : tie.invariant-loop-i
 invariant_loop buffer₀ bytes b i₀ buffer i = length buffer ≡ length buffer₀
 
-abbrev decreases_loop : tie.decreases-loop
+abbrev decreases_loop : tie.decreases-loop-i
 decreases_loop buffer₀ bytes b i₀ buffer i = length buffer₀ - i
 
 pub fill_spec : {M : Type 1} → statement M

@@ -4,10 +4,10 @@ use Rattle.std.proofs.Common.{◌+◌, ◌-◌, ◌≤◌, rules}
 use Rattle.replay.proofs.digits.bytes_at.Statement.{statement}
 use Rattle.replay.proofs.digits.bytes_at.Tie as tie
 
-abbrev invariant_loop : tie.invariant-loop
+abbrev invariant_loop : tie.invariant-loop-end
 invariant_loop line₀ start most dash n₀ end₀ line n end = start + n ≤ end
 
-abbrev decreases_loop : tie.decreases-loop
+abbrev decreases_loop : tie.decreases-loop-end
 decreases_loop line₀ start most dash n₀ end₀ line n end = 480000 - end
 
 pub bytes_at_spec : {M : Type 1} → statement M

@@ -4,10 +4,10 @@ use Rattle.std.proofs.Common.{◌-◌, ◌≤◌, rules}
 use Rattle.replay.proofs.digits.number_at.Statement.{statement}
 use Rattle.replay.proofs.digits.number_at.Tie as tie
 
-abbrev invariant_loop : tie.invariant-loop
+abbrev invariant_loop : tie.invariant-loop-end
 invariant_loop line start most number₀ end₀ number end = start ≤ end
 
-abbrev decreases_loop : tie.decreases-loop
+abbrev decreases_loop : tie.decreases-loop-end
 decreases_loop line start most number₀ end₀ number end = 480000 - end
 
 pub number_at_spec : {M : Type 1} → statement M

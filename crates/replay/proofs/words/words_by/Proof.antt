@@ -4,10 +4,10 @@ use Rattle.std.proofs.Common.{◌-◌, ◌≤◌, rules}
 use Rattle.replay.proofs.words.words_by.Statement.{statement}
 use Rattle.replay.proofs.words.words_by.Tie as tie
 
-abbrev invariant_loop : tie.invariant-loop
+abbrev invariant_loop : tie.invariant-loop-k
 invariant_loop line₀ f own words₀ next₀ k₀ line words next k = k ≤ 19
 
-abbrev decreases_loop : tie.decreases-loop
+abbrev decreases_loop : tie.decreases-loop-k
 decreases_loop line₀ f own words₀ next₀ k₀ line words next k = 19 - k
 
 pub words_by_spec : {M : Type 1} → statement M
