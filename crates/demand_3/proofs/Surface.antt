@@ -14,7 +14,7 @@ use Rattle.assoc_bytes.specs.Handed.{hand_out}
 use Rattle.assoc_bytes.proofs.BytesLaws.{assoc_back}
 use Rattle.assoc_bytes.proofs.HandedLaws.{handed_on}
 use Rattle.demand_2.proofs.Calls.{receive_unchanged, local_unchanged}
-use Rattle.demand_3.specs.Calls.{Lent, leaves, fresh, Given, Given.piece, Given.local}
+use Rattle.demand_3.specs.Calls.{fresh, Given, Given.piece, Given.local}
 use Rattle.demand_3.specs.Every.{Each}
 use Rattle.demand_3.specs.Surface.{answer_to, by_value, in_bytes, call_of, Narrow}
 

@@ -8,7 +8,6 @@ use mathlib.Core.Path.{◌≡◌, sym, ap, ◌∙◌}
 use lib.ListN.{length, take, drop, get_or, length-drop}
 use lib.Seq.{length-take-le}
 use borrow.Author.Tests.{eq-eqb, ne_eqb}
-use Rattle.laws.specs.Lists.{all}
 use Rattle.octets.proofs.SliceLaws.{place_from}
 use Rattle.items.specs.Items.{walk, filled, bodies, first, place, item_end}
 use Rattle.items.proofs.WalkLaws.{Item, more, stop, over, walking}

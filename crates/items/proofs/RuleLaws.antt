@@ -7,7 +7,7 @@ use mathlib.Core.Path.{◌≡◌, refl, sym, ap, ◌∙◌}
 use lib.ListN.{length, take, drop, get_or}
 use lib.Dec.{eqb}
 use borrow.Author.Tests.{not-true, not-false}
-use Rattle.laws.specs.Lists.{all, among}
+use Rattle.laws.specs.Lists.{among}
 use Rattle.items.specs.Items.{Walk, done, broken, item, walk, filled, types, only, good_bodies, item_end}
 use Rattle.items.specs.Private.Rules.{Rule, keeps}
 use Rattle.items.proofs.WalkLaws.{Item, stop, over, walking}

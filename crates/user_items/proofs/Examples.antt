@@ -5,7 +5,7 @@ use Prim.Native.String.{String}
 use mathlib.Core.Bool.{Bool, true, not, ◌&&◌, cond}
 use mathlib.Core.List.{List, [], ◌∷◌, ◌++◌}
 use mathlib.Core.Path.{◌≡◌, refl}
-use lib.ListN.{length, replicate}
+use lib.ListN.{replicate}
 use lib.Dec.{leb, eqb}
 use Rattle.laws.specs.Lists.{all, empty, same_bytes}
 use Rattle.laws.specs.Text.{bytes}
