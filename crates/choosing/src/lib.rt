@@ -14,7 +14,7 @@ use crate::answer::answer_to;
 use crate::runs::{count, run_end};
 
 // refusal: NOT_REFUSED, or BAD_CONTENTS or SHORT_OUTPUT with no record. records: how many the answer sheet starts with.
-#[derive(Drop)]
+#[derive(Clone, Copy)]
 pub struct Chosen {
     pub refusal: u8,
     pub records: usize,

@@ -79,7 +79,7 @@ goods_more (u ∷ known) good t b w = rw (goods_more known good t b w) (go (eqb 
     go : (d : Bool) → eqb t u ≡ d
         → (all (good u) (cond d (b ∷ bodies u w) (bodies u w)) && (cond (among t known) (good t b) true && all (λ v. all (good v) (bodies v w)) known))
         ≡ (cond (d || among t known) (good t b) true && (all (good u) (bodies u w) && all (λ v. all (good v) (bodies v w)) known))
-    go true e = rw (← eqb-true t u e) (hit (among t known) (good t b) (all (good t) (bodies t w)) (all (λ v. all (good v) (bodies v w)) known))
+    go true e = rw (eqb-true t u e) (hit (among u known) (good u b) (all (good u) (bodies u w)) (all (λ v. all (good v) (bodies v w)) known))
     go false e = pass (cond (among t known) (good t b) true) (all (good u) (bodies u w)) (all (λ v. all (good v) (bodies v w)) known)
 
 pub goods_done : (known : List ℕ) (good : ℕ → List ℕ → Bool) → good_bodies known good done ≡ true

@@ -10,7 +10,7 @@ use crate::user::user_in;
 
 // refusal: NOT_REFUSED, or NO_SUCH_PDU or SHORT_OUTPUT with all else 0. The titles stand at bytes 10 and 26, 16 bytes each; the application name, the implementation class
 // UID and the version name where these numbers say, 0 and 0 for one of the last two that is absent; records and roles: how many the sheet and the role sheet start with.
-#[derive(Drop)]
+#[derive(Clone, Copy)]
 pub struct Associate {
     pub refusal: u8,
     pub version: u16,

@@ -5,7 +5,7 @@ ghost use Rattle.pdvs.specs.Data.{pdvs, size};
 ghost use Rattle.reading.specs.Data.{no_data, data_of, data_at, fragment_of};
 
 // refusal: NOT_REFUSED, or NO_SUCH_PDU or BAD_CONTENTS with all else 0. The fragment starts at start, counted from the PDU's first byte, and has len bytes.
-#[derive(Drop)]
+#[derive(Clone, Copy)]
 pub struct DataRead {
     pub refusal: u8,
     pub id: u8,

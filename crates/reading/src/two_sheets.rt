@@ -8,7 +8,7 @@ ghost use Rattle.reading.specs.Private.Records.{context_type, Counted, Filled};
 use crate::fill::{put_contexts, rows};
 use crate::role_sheet::put_roles;
 
-#[derive(Drop)]
+#[derive(Clone, Copy)]
 pub(crate) struct Counts {
     pub records: usize,
     pub roles: usize,

@@ -7,7 +7,7 @@ ghost use Rattle.user_items.specs.Said.{count_said};
 ghost use Rattle.reading.specs.Private.Records.{body_at, user_in};
 
 // As Associate has them.
-#[derive(Drop)]
+#[derive(Clone, Copy)]
 pub(crate) struct UserRead {
     pub class_at: usize,
     pub class_len: usize,

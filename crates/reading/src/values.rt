@@ -3,7 +3,7 @@ ghost use Rattle.std.specs.Prelude.{◌≡◌};
 ghost use Rattle.reading.specs.Values.{reject_in, abort_in};
 
 // refusal: NOT_REFUSED, or NO_SUCH_PDU with all else 0.
-#[derive(Drop)]
+#[derive(Clone, Copy)]
 pub struct RejectRead {
     pub refusal: u8,
     pub result: u8,
@@ -11,7 +11,7 @@ pub struct RejectRead {
     pub reason: u8,
 }
 
-#[derive(Drop)]
+#[derive(Clone, Copy)]
 pub struct AbortRead {
     pub refusal: u8,
     pub source: u8,

@@ -3,14 +3,14 @@ ghost use Rattle.std.specs.Prelude.{◌≡◌};
 ghost use Rattle.receiving.specs.Private.Gathering.{want_of, Fills, Copied, Cut, RoomToGather, Opens, Gathered};
 
 // What the bytes gathered now begin with: no event yet, a length above the limit, a whole PDU.
-#[derive(Drop)]
+#[derive(Clone, Copy)]
 pub enum Head {
     Short,
     Long,
     Whole,
 }
 
-#[derive(Drop)]
+#[derive(Clone, Copy)]
 pub struct Got {
     pub used: usize,
     pub head: Head,

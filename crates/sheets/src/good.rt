@@ -9,7 +9,7 @@ use crate::ids::{ids_differ, runs_differ};
 use crate::record::{name_in, record_at};
 
 // What a sheet is to be.
-#[derive(Drop)]
+#[derive(Clone, Copy)]
 enum Kind {
     Proposal,
     Answer,

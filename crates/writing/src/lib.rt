@@ -12,7 +12,7 @@ pub use ten::{
 };
 
 // What a writing call answers: NOT_REFUSED or the paper's refusal number; the bytes sent.
-#[derive(Drop)]
+#[derive(Clone, Copy)]
 pub struct Sent {
     pub refusal: u8,
     pub count: usize,

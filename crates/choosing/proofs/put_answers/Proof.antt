@@ -6,10 +6,10 @@ use Rattle.choosing.proofs.CallLaws.{Reached, put_laws}
 use Rattle.choosing.proofs.put_answers.Statement.{statement}
 use Rattle.choosing.proofs.put_answers.Tie as tie
 
-abbrev invariant_loop : tie.invariant-loop
+abbrev invariant_loop : tie.invariant-loop-at
 invariant_loop answer₀ proposal site n₀ at₀ answer n at = Reached answer₀ proposal site answer n at
 
-abbrev decreases_loop : tie.decreases-loop
+abbrev decreases_loop : tie.decreases-loop-at
 decreases_loop answer₀ proposal site n₀ at₀ answer n at = length proposal - at
 
 pub put_answers_spec : {M : Type 1} → statement M

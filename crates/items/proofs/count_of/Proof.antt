@@ -5,10 +5,10 @@ use Rattle.items.proofs.ItemLaws.{Counting, count_laws}
 use Rattle.items.proofs.count_of.Statement.{statement}
 use Rattle.items.proofs.count_of.Tie as tie
 
-abbrev invariant_loop : tie.invariant-loop
+abbrev invariant_loop : tie.invariant-loop-at
 invariant_loop t s n₀ at₀ n at = Counting t s n at
 
-abbrev decreases_loop : tie.decreases-loop
+abbrev decreases_loop : tie.decreases-loop-at
 decreases_loop t s n₀ at₀ n at = length s - at
 
 pub count_of_spec : {M : Type 1} → statement M

@@ -7,10 +7,10 @@ use Rattle.items.proofs.ItemLaws.{fills_laws}
 use Rattle.items.proofs.fills.Statement.{statement}
 use Rattle.items.proofs.fills.Tie as tie
 
-abbrev invariant_loop : tie.invariant-loop
+abbrev invariant_loop : tie.invariant-loop-at
 invariant_loop s at₀ at = filled (walk s) ≡ filled (walk (drop at s))
 
-abbrev decreases_loop : tie.decreases-loop
+abbrev decreases_loop : tie.decreases-loop-at
 decreases_loop s at₀ at = length s - at
 
 pub fills_spec : {M : Type 1} → statement M

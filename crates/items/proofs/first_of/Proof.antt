@@ -5,10 +5,10 @@ use Rattle.items.proofs.ItemLaws.{Seeking, first_laws}
 use Rattle.items.proofs.first_of.Statement.{statement}
 use Rattle.items.proofs.first_of.Tie as tie
 
-abbrev invariant_loop : tie.invariant-loop
+abbrev invariant_loop : tie.invariant-loop-at
 invariant_loop t s at₀ at = Seeking t s at
 
-abbrev decreases_loop : tie.decreases-loop
+abbrev decreases_loop : tie.decreases-loop-at
 decreases_loop t s at₀ at = length s - at
 
 pub first_of_spec : {M : Type 1} → statement M

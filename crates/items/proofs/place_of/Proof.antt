@@ -7,10 +7,10 @@ use Rattle.items.proofs.ItemLaws.{place_laws}
 use Rattle.items.proofs.place_of.Statement.{statement}
 use Rattle.items.proofs.place_of.Tie as tie
 
-abbrev invariant_loop : tie.invariant-loop
+abbrev invariant_loop : tie.invariant-loop-at
 invariant_loop t s at₀ at = place t (walk s) ≡ at + place t (walk (drop at s))
 
-abbrev decreases_loop : tie.decreases-loop
+abbrev decreases_loop : tie.decreases-loop-at
 decreases_loop t s at₀ at = length s - at
 
 pub place_of_spec : {M : Type 1} → statement M

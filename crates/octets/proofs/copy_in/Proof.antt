@@ -6,10 +6,10 @@ use Rattle.octets.proofs.PutLaws.{copy_laws}
 use Rattle.octets.proofs.copy_in.Statement.{statement}
 use Rattle.octets.proofs.copy_in.Tie as tie
 
-abbrev invariant_loop : tie.invariant-loop
+abbrev invariant_loop : tie.invariant-loop-i
 invariant_loop out₀ at bytes i₀ out i = (length out ≡ length out₀) × ((i ≤ length bytes) × (out ≡ copied out₀ at bytes i))
 
-abbrev decreases_loop : tie.decreases-loop
+abbrev decreases_loop : tie.decreases-loop-i
 decreases_loop out₀ at bytes i₀ out i = length bytes - i
 
 pub copy_in_spec : {M : Type 1} → statement M

@@ -6,10 +6,10 @@ use Rattle.laws.proofs.Same.{Comparing, same_laws}
 use Rattle.octets.proofs.same_bytes.Statement.{statement}
 use Rattle.octets.proofs.same_bytes.Tie as tie
 
-abbrev invariant_loop : tie.invariant-loop
+abbrev invariant_loop : tie.invariant-loop-i
 invariant_loop a b n differ₀ i₀ differ i = (i ≤ length a) × Comparing a b differ i
 
-abbrev decreases_loop : tie.decreases-loop
+abbrev decreases_loop : tie.decreases-loop-i
 decreases_loop a b n differ₀ i₀ differ i = length a - i
 
 pub same_bytes_spec : {M : Type 1} → statement M

@@ -6,10 +6,10 @@ use Rattle.choosing.proofs.AnswerLaws.{Looking, look_laws}
 use Rattle.choosing.proofs.answer.answer_to.Statement.{statement}
 use Rattle.choosing.proofs.answer.answer_to.Tie as tie
 
-abbrev invariant_loop : tie.invariant-loop
+abbrev invariant_loop : tie.invariant-loop-at
 invariant_loop run site result₀ at₀ result at = Looking run site result at
 
-abbrev decreases_loop : tie.decreases-loop
+abbrev decreases_loop : tie.decreases-loop-at
 decreases_loop run site result₀ at₀ result at = length site - at
 
 pub answer_to_spec : {M : Type 1} → statement M

@@ -10,10 +10,10 @@ use Rattle.choosing.proofs.AnswerLaws.{proposed_from, proposed_laws}
 use Rattle.choosing.proofs.answer.was_proposed.Statement.{statement}
 use Rattle.choosing.proofs.answer.was_proposed.Tie as tie
 
-abbrev invariant_loop : tie.invariant-loop
+abbrev invariant_loop : tie.invariant-loop-at
 invariant_loop run x at₀ at = (at % RECORD ≡ 0) × (at ≤ length run) × (was_proposed (run_context run) x ≡ proposed_from run x at)
 
-abbrev decreases_loop : tie.decreases-loop
+abbrev decreases_loop : tie.decreases-loop-at
 decreases_loop run x at₀ at = length run - at
 
 pub was_proposed_spec : {M : Type 1} → statement M

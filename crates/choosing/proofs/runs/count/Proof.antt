@@ -6,10 +6,10 @@ use Rattle.choosing.proofs.RunLaws.{Counted, count_laws}
 use Rattle.choosing.proofs.runs.count.Statement.{statement}
 use Rattle.choosing.proofs.runs.count.Tie as tie
 
-abbrev invariant_loop : tie.invariant-loop
+abbrev invariant_loop : tie.invariant-loop-at
 invariant_loop s n₀ at₀ n at = Counted s n at
 
-abbrev decreases_loop : tie.decreases-loop
+abbrev decreases_loop : tie.decreases-loop-at
 decreases_loop s n₀ at₀ n at = length s - at
 
 pub count_spec : {M : Type 1} → statement M

@@ -6,10 +6,10 @@ use Rattle.choosing.proofs.RunLaws.{Leads, lead_laws}
 use Rattle.choosing.proofs.runs.run_end.Statement.{statement}
 use Rattle.choosing.proofs.runs.run_end.Tie as tie
 
-abbrev invariant_loop : tie.invariant-loop
+abbrev invariant_loop : tie.invariant-loop-at
 invariant_loop s from at₀ at = Leads s from at
 
-abbrev decreases_loop : tie.decreases-loop
+abbrev decreases_loop : tie.decreases-loop-at
 decreases_loop s from at₀ at = length s - at
 
 pub run_end_spec : {M : Type 1} → statement M

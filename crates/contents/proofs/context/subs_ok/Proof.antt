@@ -10,10 +10,10 @@ use Rattle.contents.proofs.ContentLaws.{in_order}
 use Rattle.contents.proofs.context.subs_ok.Statement.{statement}
 use Rattle.contents.proofs.context.subs_ok.Tie as tie
 
-abbrev invariant_loop : tie.invariant-loop
+abbrev invariant_loop : tie.invariant-loop-at
 invariant_loop s at₀ st₀ at st = subs_ok (walk s) ≡ keeps sub_rule st (walk (drop at s))
 
-abbrev decreases_loop : tie.decreases-loop
+abbrev decreases_loop : tie.decreases-loop-at
 decreases_loop s at₀ st₀ at st = length s - at
 
 pub subs_ok_spec : {M : Type 1} → statement M

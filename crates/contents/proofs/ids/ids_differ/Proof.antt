@@ -10,10 +10,10 @@ use Rattle.contents.proofs.IdLaws.{seeking}
 use Rattle.contents.proofs.ids.ids_differ.Statement.{statement}
 use Rattle.contents.proofs.ids.ids_differ.Tie as tie
 
-abbrev invariant_loop : tie.invariant-loop
+abbrev invariant_loop : tie.invariant-loop-at
 invariant_loop k s seen₀ at₀ seen at = distinct (ids k (walk s)) ≡ fresh seen (ids k (walk (drop at s)))
 
-abbrev decreases_loop : tie.decreases-loop
+abbrev decreases_loop : tie.decreases-loop-at
 decreases_loop k s seen₀ at₀ seen at = length s - at
 
 pub ids_differ_spec : {M : Type 1} → statement M

@@ -10,10 +10,10 @@ use Rattle.contents.proofs.ContentLaws.{in_order}
 use Rattle.contents.proofs.top.top_ok.Statement.{statement}
 use Rattle.contents.proofs.top.top_ok.Tie as tie
 
-abbrev invariant_loop : tie.invariant-loop
+abbrev invariant_loop : tie.invariant-loop-at
 invariant_loop k s at₀ st₀ at st = top_ok k (walk s) ≡ keeps (top_rule k) st (walk (drop at s))
 
-abbrev decreases_loop : tie.decreases-loop
+abbrev decreases_loop : tie.decreases-loop-at
 decreases_loop k s at₀ st₀ at st = length s - at
 
 pub top_ok_spec : {M : Type 1} → statement M

@@ -9,10 +9,10 @@ use Rattle.names.proofs.NameLaws.{name_laws}
 use Rattle.names.proofs.name.name_ok.Statement.{statement}
 use Rattle.names.proofs.name.name_ok.Tie as tie
 
-abbrev invariant_loop : tie.invariant-loop
+abbrev invariant_loop : tie.invariant-loop-i
 invariant_loop s p₀ i₀ p i = (i ≤ length s) × (reads p (drop i s) ≡ reads Start s)
 
-abbrev decreases_loop : tie.decreases-loop
+abbrev decreases_loop : tie.decreases-loop-i
 decreases_loop s p₀ i₀ p i = length s - i
 
 pub name_ok_spec : {M : Type 1} → statement M

@@ -10,10 +10,10 @@ use Rattle.roles.proofs.GoodLaws.{all_laws}
 use Rattle.roles.proofs.good.records_ok.Statement.{statement}
 use Rattle.roles.proofs.good.records_ok.Tie as tie
 
-abbrev invariant_loop : tie.invariant-loop
+abbrev invariant_loop : tie.invariant-loop-at
 invariant_loop s at₀ at = (at ≤ length s) × (all record_ok (role_records (drop at s)) ≡ all record_ok (role_records s))
 
-abbrev decreases_loop : tie.decreases-loop
+abbrev decreases_loop : tie.decreases-loop-at
 decreases_loop s at₀ at = length s - at
 
 pub records_ok_spec : {M : Type 1} → statement M

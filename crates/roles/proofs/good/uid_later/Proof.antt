@@ -9,10 +9,10 @@ use Rattle.roles.proofs.GoodLaws.{later_laws}
 use Rattle.roles.proofs.good.uid_later.Statement.{statement}
 use Rattle.roles.proofs.good.uid_later.Tie as tie
 
-abbrev invariant_loop : tie.invariant-loop
+abbrev invariant_loop : tie.invariant-loop-at
 invariant_loop s from uid at₀ at = (at ≤ length s) × (any (same_bytes uid) (uids_in (drop from s)) ≡ any (same_bytes uid) (uids_in (drop at s)))
 
-abbrev decreases_loop : tie.decreases-loop
+abbrev decreases_loop : tie.decreases-loop-at
 decreases_loop s from uid at₀ at = length s - at
 
 pub uid_later_spec : {M : Type 1} → statement M

@@ -9,10 +9,10 @@ use Rattle.roles.proofs.GoodLaws.{apart_laws}
 use Rattle.roles.proofs.good.uids_differ.Statement.{statement}
 use Rattle.roles.proofs.good.uids_differ.Tie as tie
 
-abbrev invariant_loop : tie.invariant-loop
+abbrev invariant_loop : tie.invariant-loop-at
 invariant_loop s at₀ at = (at ≤ length s) × (differ (uids_in s) ≡ differ (uids_in (drop at s)))
 
-abbrev decreases_loop : tie.decreases-loop
+abbrev decreases_loop : tie.decreases-loop-at
 decreases_loop s at₀ at = length s - at
 
 pub uids_differ_spec : {M : Type 1} → statement M

@@ -10,10 +10,10 @@ use Rattle.sheets.proofs.GoodLaws.{all_laws}
 use Rattle.sheets.proofs.good.records_ok.Statement.{statement}
 use Rattle.sheets.proofs.good.records_ok.Tie as tie
 
-abbrev invariant_loop : tie.invariant-loop
+abbrev invariant_loop : tie.invariant-loop-at
 invariant_loop answer s at₀ at = (at % 132 ≡ 0) × (at ≤ length s) × (all (record_ok answer) (records_of (drop at s)) ≡ all (record_ok answer) (records_of s))
 
-abbrev decreases_loop : tie.decreases-loop
+abbrev decreases_loop : tie.decreases-loop-at
 decreases_loop answer s at₀ at = length s - at
 
 pub records_ok_spec : {M : Type 1} → statement M

@@ -9,10 +9,10 @@ use Rattle.sheets.proofs.GoodLaws.{zero_laws}
 use Rattle.sheets.proofs.good.zeros.Statement.{statement}
 use Rattle.sheets.proofs.good.zeros.Tie as tie
 
-abbrev invariant_loop : tie.invariant-loop
+abbrev invariant_loop : tie.invariant-loop-i
 invariant_loop s i₀ i = (i ≤ length s) × (all zero? (drop i s) ≡ all zero? s)
 
-abbrev decreases_loop : tie.decreases-loop
+abbrev decreases_loop : tie.decreases-loop-i
 decreases_loop s i₀ i = length s - i
 
 pub zeros_spec : {M : Type 1} → statement M

@@ -10,10 +10,10 @@ use Rattle.sheets.proofs.RunLaws.{apart_laws}
 use Rattle.sheets.proofs.ids.ids_differ.Statement.{statement}
 use Rattle.sheets.proofs.ids.ids_differ.Tie as tie
 
-abbrev invariant_loop : tie.invariant-loop
+abbrev invariant_loop : tie.invariant-loop-at
 invariant_loop s seen₀ at₀ seen at = (at % 132 ≡ 0) × (at ≤ length s) × (distinct (ids_in s) ≡ fresh seen (ids_in (drop at s)))
 
-abbrev decreases_loop : tie.decreases-loop
+abbrev decreases_loop : tie.decreases-loop-at
 decreases_loop s seen₀ at₀ seen at = length s - at
 
 pub ids_differ_spec : {M : Type 1} → statement M

@@ -12,10 +12,10 @@ use Rattle.sheets.proofs.RunLaws.{runs_laws}
 use Rattle.sheets.proofs.ids.runs_differ.Statement.{statement}
 use Rattle.sheets.proofs.ids.runs_differ.Tie as tie
 
-abbrev invariant_loop : tie.invariant-loop
+abbrev invariant_loop : tie.invariant-loop-at
 invariant_loop s seen₀ at₀ seen at = (at % 132 ≡ 0) × (at ≤ length s) × (distinct (map context_id (contexts_in s)) ≡ fresh seen (map context_id (contexts_in (drop at s))))
 
-abbrev decreases_loop : tie.decreases-loop
+abbrev decreases_loop : tie.decreases-loop-at
 decreases_loop s seen₀ at₀ seen at = length s - at
 
 pub runs_differ_spec : {M : Type 1} → statement M

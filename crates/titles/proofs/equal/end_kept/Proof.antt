@@ -8,10 +8,10 @@ use Rattle.titles.proofs.TrimLaws.{end_laws}
 use Rattle.titles.proofs.equal.end_kept.Statement.{statement}
 use Rattle.titles.proofs.equal.end_kept.Tie as tie
 
-abbrev invariant_loop : tie.invariant-loop
+abbrev invariant_loop : tie.invariant-loop-e
 invariant_loop s e₀ e = (e ≤ length s) × (trim_end (take e s) ≡ trim_end s)
 
-abbrev decreases_loop : tie.decreases-loop
+abbrev decreases_loop : tie.decreases-loop-e
 decreases_loop s e₀ e = e
 
 pub end_kept_spec : {M : Type 1} → statement M

@@ -8,10 +8,10 @@ use Rattle.titles.proofs.TrimLaws.{front_laws}
 use Rattle.titles.proofs.equal.first_kept.Statement.{statement}
 use Rattle.titles.proofs.equal.first_kept.Tie as tie
 
-abbrev invariant_loop : tie.invariant-loop
+abbrev invariant_loop : tie.invariant-loop-i
 invariant_loop s i₀ i = (i ≤ length s) × (trim_start (drop i s) ≡ trim_start s)
 
-abbrev decreases_loop : tie.decreases-loop
+abbrev decreases_loop : tie.decreases-loop-i
 decreases_loop s i₀ i = length s - i
 
 pub first_kept_spec : {M : Type 1} → statement M

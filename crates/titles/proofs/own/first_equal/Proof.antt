@@ -10,10 +10,10 @@ use Rattle.titles.proofs.OwnLaws.{first_laws}
 use Rattle.titles.proofs.own.first_equal.Statement.{statement}
 use Rattle.titles.proofs.own.first_equal.Tie as tie
 
-abbrev invariant_loop : tie.invariant-loop
+abbrev invariant_loop : tie.invariant-loop-place
 invariant_loop own t count place₀ place = (place ≤ count) × (place + first_place (titles_equal t) (records 16 (count - place) (drop (place * 16) own)) ≡ first_place (titles_equal t) (titles own))
 
-abbrev decreases_loop : tie.decreases-loop
+abbrev decreases_loop : tie.decreases-loop-place
 decreases_loop own t count place₀ place = count - place
 
 pub first_equal_spec : {M : Type 1} → statement M

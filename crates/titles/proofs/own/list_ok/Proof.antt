@@ -10,10 +10,10 @@ use Rattle.titles.proofs.OwnLaws.{list_laws}
 use Rattle.titles.proofs.own.list_ok.Statement.{statement}
 use Rattle.titles.proofs.own.list_ok.Tie as tie
 
-abbrev invariant_loop : tie.invariant-loop
+abbrev invariant_loop : tie.invariant-loop-k
 invariant_loop own n k₀ k = (k ≤ n) × (all title_ok (records 16 (n - k) (drop (k * 16) own)) ≡ all title_ok (titles own))
 
-abbrev decreases_loop : tie.decreases-loop
+abbrev decreases_loop : tie.decreases-loop-k
 decreases_loop own n k₀ k = n - k
 
 pub list_ok_spec : {M : Type 1} → statement M

@@ -8,10 +8,10 @@ use Rattle.user_items.proofs.BodyLaws.{version_laws}
 use Rattle.user_items.proofs.body.version_ok.Statement.{statement}
 use Rattle.user_items.proofs.body.version_ok.Tie as tie
 
-abbrev invariant_loop : tie.invariant-loop
+abbrev invariant_loop : tie.invariant-loop-i
 invariant_loop b i₀ i = (i ≤ length b) × (all title_byte (drop i b) ≡ all title_byte b)
 
-abbrev decreases_loop : tie.decreases-loop
+abbrev decreases_loop : tie.decreases-loop-i
 decreases_loop b i₀ i = length b - i
 
 pub version_ok_spec : {M : Type 1} → statement M

@@ -9,10 +9,10 @@ use Rattle.user_items.proofs.UserLaws.{comes_laws}
 use Rattle.user_items.proofs.user.comes_from.Statement.{statement}
 use Rattle.user_items.proofs.user.comes_from.Tie as tie
 
-abbrev invariant_loop : tie.invariant-loop
+abbrev invariant_loop : tie.invariant-loop-j
 invariant_loop t x s from j₀ j = comes (once_in user_kinds t) t x (walk (drop from s)) ≡ comes (once_in user_kinds t) t x (walk (drop j s))
 
-abbrev decreases_loop : tie.decreases-loop
+abbrev decreases_loop : tie.decreases-loop-j
 decreases_loop t x s from j₀ j = length s - j
 
 pub comes_from_spec : {M : Type 1} → statement M

@@ -9,10 +9,10 @@ use Rattle.user_items.proofs.UserLaws.{passes_laws}
 use Rattle.user_items.proofs.user.subs_ok.Statement.{statement}
 use Rattle.user_items.proofs.user.subs_ok.Tie as tie
 
-abbrev invariant_loop : tie.invariant-loop
+abbrev invariant_loop : tie.invariant-loop-at
 invariant_loop s at₀ at = passes user_kinds (walk s) ≡ passes user_kinds (walk (drop at s))
 
-abbrev decreases_loop : tie.decreases-loop
+abbrev decreases_loop : tie.decreases-loop-at
 decreases_loop s at₀ at = length s - at
 
 pub subs_ok_spec : {M : Type 1} → statement M
