@@ -103,8 +103,7 @@ def main():
         for line in text.splitlines():
             m = re.match(r"^\s*(?:pub )?(?:ghost )?use ([\w.'·-]+?)\.\{([^}]*)\}", line)
             if m:
-                ours = re.match(r"Rattle\.([a-z0-9_]+)\.(specs|proofs)\.", m.group(1) + ".")
-                ours = ours and ours.group(1) in crates and ".declared" not in m.group(1) and not re.search(r"\.(Goals|Given|Statement|Tie|Symbol|Met|Code)$", m.group(1))
+                ours = m.group(1) in module
                 for w in m.group(2).split(","):
                     (here if ours else elsewhere).add(w.split(" as ")[0].strip())
             m = re.match(r"^\s*(?:pub )?(?:ghost )?use (Rattle\.([a-z0-9_]+)\.(?:specs|proofs)\.[\w.'-]+)(?: as ([\w'-]+))?;?\s*$", line)

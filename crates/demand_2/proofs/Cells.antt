@@ -35,7 +35,7 @@ use Rattle.demand_2.specs.Cells as cells
 use Rattle.demand_2.proofs.Unbroken.{never, Sound}
 use Rattle.demand_2.proofs.Moves.{Received, received_by}
 use Rattle.demand_2.proofs.Sound.{entering_state}
-use Rattle.demand_2.proofs.Given.{cell-own}
+use Rattle.demand_2.proofs.Given.{cell_own}
 use Rattle.demand_2.proofs.Ready.{Receives, receives_of}
 use Rattle.demand_2.proofs.Answered.{received, local_done, takes_of}
 
@@ -156,7 +156,7 @@ module _ (a : Assoc) (g o : List ℕ) (e : Local) where
   given_at : local_refusal a g o e ≡ 0 → let act = cell_of (number_of e) a.state in Did (local_of a g o e) act (next_of act false a.requestor)
   unfolding on_local doing after leaving
   given_at h =
-      let c = cell-own (standing a) e (length o) (takes_of a g o e h).request_fine in
+      let c = cell_own (standing a) e (length o) (takes_of a g o e h).request_fine in
       rw (local_done a g o e h)
       (record { answered = refl; action = c.same; state = entering_state _ ∙ ap (λ (n : ℕ). next_of n false a.requestor) c.same })
 

@@ -18,7 +18,7 @@ use Rattle.association.specs.Events.{Local}
 use Rattle.association.specs.Machine.{Seen, doing, on_event, on_local, request_refusal, upper}
 use Rattle.demand_2.proofs.Unbroken.{Sound}
 use Rattle.demand_2.proofs.Sound.{sound_pdu, sound_long}
-use Rattle.demand_2.proofs.Given.{sound-local, sends-room}
+use Rattle.demand_2.proofs.Given.{sound_local, sends_room}
 
 -- ten bytes or none
 few : (which : ℕ) → length (ten_of which) ≤ 16390
@@ -33,7 +33,7 @@ pub kept_local : (s : Standing) (e : Local) (x : Reaction Standing Seen) → Sou
 kept_local s e x S true h q =
     let p : on_local s e ≡ x = cc in
     let z = eqb-true _ _ h in
-    subst (Kept upper Sound) p (record { sound = sound-local s e 16390 z S; room = sends-room s e 16390 z })
+    subst (Kept upper Sound) p (record { sound = sound_local s e 16390 z S; room = sends_room s e 16390 z })
 kept_local s e x S false h q = let z : ◌≡◌ {A = ℕ} 0 1 = cc in absurd (omega arith)
 
 abbrev pub upper_laws : Laws upper

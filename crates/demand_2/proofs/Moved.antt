@@ -17,7 +17,7 @@ use Rattle.association.specs.Machine.{on_local, request_refusal}
 use Rattle.association.proofs.RefusalLaws.{few_gathered}
 use Rattle.demand_2.proofs.Unbroken.{never, Sound, Whole, Fine}
 use Rattle.demand_2.proofs.Sound.{dropped_before}
-use Rattle.demand_2.proofs.Given.{cell-own, next-at, sound-local}
+use Rattle.demand_2.proofs.Given.{cell_own, next_at, sound_local}
 
 module _ (s : Standing) (S : Sound s) (e : ℕ) (f : 0 < cell_of e s.state) (n : ℕ) (none : dropping s ≡ true → n ≡ 0) where
   abbrev next : Standing
@@ -45,9 +45,9 @@ module _ (a : Assoc) (e : Local) (room : ℕ) (w : Whole a) (h : request_refusal
   pub local_left : with_gathered moves (cond (dropping moves) 0 a.gathered) ≡ leaving moves a.gathered
   unfolding leaving
   local_left =
-      rw (next-at (standing a) e room h)
+      rw (next_at (standing a) e room h)
       (ap (with_gathered (after (cell_of (number_of e) a.state) (standing a) (brings_nothing (standing a))))
-      (same_count (standing a) w.sound (number_of e) (cell-own (standing a) e room h).filled a.gathered w.dropped))
+      (same_count (standing a) w.sound (number_of e) (cell_own (standing a) e room h).filled a.gathered w.dropped))
 
 -- with no bytes gathered, or with those that were
 fine_left : (s : Standing) (n : ℕ) (g : List ℕ) → Sound s → n ≤ 16389 → n ≤ length g → bad_length n g ≡ false → (b : Bool) → dropping s ≡ b
@@ -62,4 +62,4 @@ pub local_fine : (a : Assoc) (g : List ℕ) (e : Local) (room : ℕ) → Fine a 
 local_fine a g e room F h =
     let w = F.whole in
     rw (← local_left a e room w h)
-    (fine_left (on_local (standing a) e).next a.gathered g (sound-local (standing a) e room h w.sound) w.few F.room F.length_good (dropping (on_local (standing a) e).next) refl)
+    (fine_left (on_local (standing a) e).next a.gathered g (sound_local (standing a) e room h w.sound) w.few F.room F.length_good (dropping (on_local (standing a) e).next) refl)

@@ -35,7 +35,7 @@ use Rattle.demand_2.specs.Sent.{bytes_sent, kind_named, kind_due, AsNamed, sends
 use Rattle.demand_2.proofs.Unbroken.{never}
 use Rattle.demand_2.proofs.Moves.{received_by}
 use Rattle.demand_2.proofs.Sound.{entering_state}
-use Rattle.demand_2.proofs.Given.{OwnCell, form-fine, sends-form, cell-own}
+use Rattle.demand_2.proofs.Given.{OwnCell, form_fine, sends_form, cell_own}
 use Rattle.demand_2.proofs.Answered.{received, done_local, local_done, takes_of}
 use Rattle.demand_2.proofs.Calls.{receive_refusal_so, local_refusal_so}
 use Rattle.demand_2.proofs.Named.{ten, IsAbort, is_invalid, is_abort, given_kind, heard_named, given_named, contents_sent}
@@ -142,12 +142,12 @@ module _ (a : Assoc) (g o : List ℕ) (e : Local) (h : local_refusal a g o e ≡
   fine = (takes_of a g o e h).request_fine
 
   own_cell : OwnCell (number_of e) a.state
-  own_cell = cell-own (standing a) e (length o) fine
+  own_cell = cell_own (standing a) e (length o) fine
 
   given_bytes : Gives e (local_action (standing a) e) (on_local (standing a) e).sends
   given_bytes =
-      rw (sends-form (standing a) e)
-      (gives (standing a) e (length o) (rw own_cell.same (contents_sent (number_of e) a.state own_cell.own own_cell.filled)) (form-fine (standing a) e (length o) fine))
+      rw (sends_form (standing a) e)
+      (gives (standing a) e (length o) (rw own_cell.same (contents_sent (number_of e) a.state own_cell.own own_cell.filled)) (form_fine (standing a) e (length o) fine))
 
   named_local : AsNamed (done_local a g o e)
   unfolding on_local doing after leaving

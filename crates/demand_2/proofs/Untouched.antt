@@ -27,7 +27,7 @@ use Rattle.association.specs.Calls.{Call, call, lent_of, heard, receive_refusal,
 use Rattle.writing.proofs.TenLaws.{ten_length}
 use Rattle.demand_2.specs.Cells.{calls}
 use Rattle.demand_2.specs.Gather.{GatherOnlyTested}
-use Rattle.demand_2.proofs.Given.{sends-room}
+use Rattle.demand_2.proofs.Given.{sends_room}
 use Rattle.demand_2.proofs.Ready.{Receives, receives_of}
 use Rattle.demand_2.proofs.Answered.{receive_either, local_refused, done_local, local_done, local_either, takes_of}
 use Rattle.demand_2.proofs.Calls.{local_refusal_so}
@@ -133,5 +133,5 @@ local_untouched a g o e c = local_either a g o e (Untouched c 0 g o) done (untou
           behind = refl;
           gather_length = refl;
           beyond = front_behind o bs;
-          out_length = front_length o bs (sends-room (standing a) e (length o) (takes_of a g o e h).request_fine);
+          out_length = front_length o bs (sends_room (standing a) e (length o) (takes_of a g o e h).request_fine);
         }

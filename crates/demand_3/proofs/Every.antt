@@ -20,7 +20,7 @@ use Rattle.association.specs.Events.{Local}
 use Rattle.association.specs.Machine.{upper, request_refusal}
 use Rattle.association.specs.Calls.{receive_of, local_of}
 use Rattle.demand_2.proofs.Unbroken.{fine_over}
-use Rattle.demand_2.proofs.Given.{request-known}
+use Rattle.demand_2.proofs.Given.{request_known}
 use Rattle.demand_2.proofs.Kept.{upper_laws}
 use Rattle.demand_2.proofs.Ready.{fine_ready, receive_answered}
 use Rattle.demand_2.proofs.Calls.{receive_refusal_so, local_refusal_so, local_used}
@@ -77,7 +77,7 @@ module _ (s : Lent) (r : At s) where
       record {
         lent_whole = lent_fine;
         left_whole = fine_over _ _ 16390 (fine_ready _ _ (takes e).call.out (at_given e));
-        refusal = rw q (request-known (standing a) e);
+        refusal = rw q (request_known (standing a) e);
         at_least = λ h. absurd (omega arith);
         at_most = rw (local_used a s.gather s.out e) (omega arith);
       }

@@ -31,7 +31,7 @@ use Rattle.association.specs.Calls.{Call, call, lent_of, heard, local_refusal, l
 use Rattle.association.proofs.OrderLaws.{local_steps}
 use Rattle.demand_2.proofs.Unbroken.{Sound, Fine, not_refused}
 use Rattle.demand_2.proofs.Sound.{brought_filled, long_filled}
-use Rattle.demand_2.proofs.Given.{acts, request-roomy}
+use Rattle.demand_2.proofs.Given.{acts, request_roomy}
 use Rattle.demand_2.proofs.Kept.{upper_laws}
 use Rattle.demand_2.proofs.Ready.{fine_ready, fine_given, receive_answered}
 use Rattle.demand_2.proofs.Moved.{local_left}
@@ -101,7 +101,7 @@ module _ (s : Lent) (r : At s) (e : Local) where
   pub refused_same : local_refusal s.assoc s.gather s.out e ≡ request_refusal (standing s.assoc) e 16390
   refused_same =
       rw (local_steps s.assoc s.gather s.out e, not_refused s.assoc s.gather s.assoc.gathered F)
-      (request-roomy (standing s.assoc) e (length s.out) r.output)
+      (request_roomy (standing s.assoc) e (length s.out) r.output)
 
   refused_ran : (n : ℕ) → as_ran (call (refused_with n s.assoc) s.gather s.out) ≡ record { trace = []; end = engine s }
   unfolding seen_of refused_with

@@ -1,3 +1,1 @@
-mod Parts
-pub mod Entered
 pub mod Agree

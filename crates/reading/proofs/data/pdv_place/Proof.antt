@@ -4,10 +4,10 @@ use Rattle.reading.proofs.DataLaws.{Reaching, reach_laws}
 use Rattle.reading.proofs.data.pdv_place.Statement.{statement}
 use Rattle.reading.proofs.data.pdv_place.Tie as tie
 
-abbrev invariant_loop : tie.invariant-loop
+abbrev invariant_loop : tie.invariant-loop-k
 invariant_loop number s at₀ k₀ at k = Reaching number s at k
 
-abbrev decreases_loop : tie.decreases-loop
+abbrev decreases_loop : tie.decreases-loop-k
 decreases_loop number s at₀ k₀ at k = number - k
 
 pub pdv_place_spec : {M : Type 1} → statement M

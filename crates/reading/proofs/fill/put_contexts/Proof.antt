@@ -6,10 +6,10 @@ use Rattle.reading.proofs.FillLaws.{Filling, fill_laws}
 use Rattle.reading.proofs.fill.put_contexts.Statement.{statement}
 use Rattle.reading.proofs.fill.put_contexts.Tie as tie
 
-abbrev invariant_loop : tie.invariant-loop
+abbrev invariant_loop : tie.invariant-loop-at
 invariant_loop k sheet₀ s n₀ at₀ sheet n at = Filling (body_records k) k s sheet₀ 0 sheet n at
 
-abbrev decreases_loop : tie.decreases-loop
+abbrev decreases_loop : tie.decreases-loop-at
 decreases_loop k sheet₀ s n₀ at₀ sheet n at = length s - at
 
 pub put_contexts_spec : {M : Type 1} → statement M

@@ -6,10 +6,10 @@ use Rattle.reading.proofs.FillLaws.{Filling, fill_laws}
 use Rattle.reading.proofs.fill.put_transfers.Statement.{statement}
 use Rattle.reading.proofs.fill.put_transfers.Tie as tie
 
-abbrev invariant_loop : tie.invariant-loop
+abbrev invariant_loop : tie.invariant-loop-at
 invariant_loop sheet₀ from id a s n₀ at₀ sheet n at = Filling (record_of id 0 a) 0x40 s sheet₀ from sheet n at
 
-abbrev decreases_loop : tie.decreases-loop
+abbrev decreases_loop : tie.decreases-loop-at
 decreases_loop sheet₀ from id a s n₀ at₀ sheet n at = length s - at
 
 pub put_transfers_spec : {M : Type 1} → statement M

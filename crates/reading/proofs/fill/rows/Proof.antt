@@ -5,10 +5,10 @@ use Rattle.reading.proofs.FillLaws.{Rows, rows_laws}
 use Rattle.reading.proofs.fill.rows.Statement.{statement}
 use Rattle.reading.proofs.fill.rows.Tie as tie
 
-abbrev invariant_loop : tie.invariant-loop
+abbrev invariant_loop : tie.invariant-loop-at
 invariant_loop k s n₀ at₀ n at = Rows k s n at
 
-abbrev decreases_loop : tie.decreases-loop
+abbrev decreases_loop : tie.decreases-loop-at
 decreases_loop k s n₀ at₀ n at = length s - at
 
 pub rows_spec : {M : Type 1} → statement M

@@ -7,10 +7,10 @@ use Rattle.reading.proofs.RoleLaws.{roles_laws}
 use Rattle.reading.proofs.role_sheet.put_roles.Statement.{statement}
 use Rattle.reading.proofs.role_sheet.put_roles.Tie as tie
 
-abbrev invariant_loop : tie.invariant-loop
+abbrev invariant_loop : tie.invariant-loop-at
 invariant_loop sheet₀ u n₀ at₀ sheet n at = Filling role_record 0x54 u sheet₀ 0 sheet n at
 
-abbrev decreases_loop : tie.decreases-loop
+abbrev decreases_loop : tie.decreases-loop-at
 decreases_loop sheet₀ u n₀ at₀ sheet n at = length u - at
 
 pub put_roles_spec : {M : Type 1} → statement M

@@ -10,10 +10,10 @@ use Rattle.writing_associate.proofs.ContextLaws.{measure_laws}
 use Rattle.writing_associate.proofs.contexts.measure.Statement.{statement}
 use Rattle.writing_associate.proofs.contexts.measure.Tie as tie
 
-abbrev invariant_loop : tie.invariant-loop
+abbrev invariant_loop : tie.invariant-loop-at
 invariant_loop answer s base n₀ going₀ at₀ n going at = (at % RECORD ≡ 0) × (at ≤ length s) × (n ≤ LONGEST) × (base + length (context_bytes answer false s 0) ≡ n + length (context_bytes answer going s at))
 
-abbrev decreases_loop : tie.decreases-loop
+abbrev decreases_loop : tie.decreases-loop-at
 decreases_loop answer s base n₀ going₀ at₀ n going at = length s - at
 
 pub measure_spec : {M : Type 1} → statement M

@@ -6,10 +6,10 @@ use Rattle.writing_associate.proofs.ContextLaws.{Writing, write_laws}
 use Rattle.writing_associate.proofs.contexts.put_contexts.Statement.{statement}
 use Rattle.writing_associate.proofs.contexts.put_contexts.Tie as tie
 
-abbrev invariant_loop : tie.invariant-loop
+abbrev invariant_loop : tie.invariant-loop-at
 invariant_loop out₀ from answer s n₀ going₀ at₀ out n going at = Writing answer s out₀ from out n going at
 
-abbrev decreases_loop : tie.decreases-loop
+abbrev decreases_loop : tie.decreases-loop-at
 decreases_loop out₀ from answer s n₀ going₀ at₀ out n going at = length s - at
 
 pub put_contexts_spec : {M : Type 1} → statement M

@@ -10,10 +10,10 @@ use Rattle.writing_associate.proofs.ContextLaws.{run_after, run_laws}
 use Rattle.writing_associate.proofs.contexts.run_size.Statement.{statement}
 use Rattle.writing_associate.proofs.contexts.run_size.Tie as tie
 
-abbrev invariant_loop : tie.invariant-loop
+abbrev invariant_loop : tie.invariant-loop-at
 invariant_loop s from at₀ n₀ at n = (at + RECORD ≤ length s) × (length (run_bytes (contexts_in (drop from s))) ≡ n + run_after s at)
 
-abbrev decreases_loop : tie.decreases-loop
+abbrev decreases_loop : tie.decreases-loop-at
 decreases_loop s from at₀ n₀ at n = length s - at
 
 pub run_size_spec : {M : Type 1} → statement M

@@ -6,10 +6,10 @@ use Rattle.writing_associate.proofs.RoleLaws.{Writing, put_roles_laws}
 use Rattle.writing_associate.proofs.role_items.put_roles.Statement.{statement}
 use Rattle.writing_associate.proofs.role_items.put_roles.Tie as tie
 
-abbrev invariant_loop : tie.invariant-loop
+abbrev invariant_loop : tie.invariant-loop-at
 invariant_loop out₀ from s n₀ at₀ out n at = Writing s out₀ from out n at
 
-abbrev decreases_loop : tie.decreases-loop
+abbrev decreases_loop : tie.decreases-loop-at
 decreases_loop out₀ from s n₀ at₀ out n at = length s - at
 
 pub put_roles_spec : {M : Type 1} → statement M

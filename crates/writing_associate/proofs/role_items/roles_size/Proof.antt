@@ -9,10 +9,10 @@ use Rattle.writing_associate.proofs.RoleLaws.{roles_size_laws}
 use Rattle.writing_associate.proofs.role_items.roles_size.Statement.{statement}
 use Rattle.writing_associate.proofs.role_items.roles_size.Tie as tie
 
-abbrev invariant_loop : tie.invariant-loop
+abbrev invariant_loop : tie.invariant-loop-at
 invariant_loop s base n₀ at₀ n at = (at ≤ length s) × (n ≤ LONGEST) × (base + length (roles_from s 0) ≡ n + length (roles_from s at))
 
-abbrev decreases_loop : tie.decreases-loop
+abbrev decreases_loop : tie.decreases-loop-at
 decreases_loop s base n₀ at₀ n at = length s - at
 
 pub roles_size_spec : {M : Type 1} → statement M
