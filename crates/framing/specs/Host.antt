@@ -46,7 +46,7 @@ module _ {C E T : Type 0} (D : Calls C E T) where
   feed_by c go [] s = stop s
   feed_by c go (b ∷ p) s = let a = receive s c (b ∷ p) in following a.seen (go (drop a.used (b ∷ p)) a.next)
 
-  -- What to believe of it is `feed-step`, where each call uses a byte: feed c p s ≡ feed_by c (feed c) p s.
+  -- What to believe of it is `feed_step`, where each call uses a byte: feed c p s ≡ feed_by c (feed c) p s.
   unfoldable pub feed : C → List ℕ → S → Ran T S
   feed c p s = by_length (λ (q : List ℕ) (z : S). stop z) (feed_by c) p s
 

@@ -9,6 +9,6 @@ module _ {X : Type 0} (spent : List ℕ → X) (body : (List ℕ → X) → List
   rounds (suc k) s = body (rounds k) s
 
   -- As many rounds as there are bytes. A body that leaves fewer bytes at each round never uses them up: what to believe is the equation without them,
-  -- by_length s ≡ body by_length s. It is proved for framing as `split_step` (proofs/Split) and for the host's loop as `feed-step` (proofs/Hosts).
+  -- by_length s ≡ body by_length s. It is proved for framing as `split_step` (proofs/Split) and for the host's loop as `feed_step` (proofs/Hosts).
   unfoldable pub by_length : List ℕ → X
   by_length s = rounds (length s) s

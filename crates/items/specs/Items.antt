@@ -21,7 +21,7 @@ step go s =
 unfoldable pub walk_in : ℕ → List ℕ → Walk
 walk_in = steps step (λ s. cond (empty s) done broken)
 
--- the items of a holder's bytes: `walk s ≡ step walk s` (WalkLaws.walk-step)
+-- the items of a holder's bytes: `walk s ≡ step walk s` (WalkLaws.walk_step)
 unfoldable pub walk : List ℕ → Walk
 walk s = walk_in (length s) s
 

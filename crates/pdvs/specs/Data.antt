@@ -21,7 +21,7 @@ pdv_step go s =
 unfoldable pub pdvs_in : ℕ → List ℕ → List Pdv
 pdvs_in = steps pdv_step (λ s. [])
 
--- the PDV items that stand at the start of a body, one behind the other: `pdvs s ≡ pdv_step pdvs s` (DataLaws.pdvs-step)
+-- the PDV items that stand at the start of a body, one behind the other: `pdvs s ≡ pdv_step pdvs s` (DataLaws.pdvs_step)
 unfoldable pub pdvs : List ℕ → List Pdv
 pdvs s = pdvs_in (length s) s
 

@@ -47,7 +47,7 @@ data_of pdu n =
     })
     (no_data (data_refusal pdu n))
 
--- the part of the PDU from that start, of that length: the fragment (DataLaws.fragment-is), and nothing where refused
+-- the part of the PDU from that start, of that length: the fragment (DataLaws.fragment_is), and nothing where refused
 unfoldable pub fragment_of : List ℕ → ℕ → List ℕ
 fragment_of pdu n = take (data_of pdu n).len (drop (data_of pdu n).start pdu)
 

@@ -9,7 +9,7 @@ use crate::title::title_ok;
 use numbers::TITLE;
 
 // Where the title sought stands among our own.
-#[derive(Drop)]
+#[derive(Clone, Copy)]
 pub enum Place {
     // at this place, from 0 to 7
     At(usize),

@@ -1,4 +1,4 @@
--- For the private functions: a holder's items in one pass, where their order counts. RuleLaws.keeps-is says what it comes to.
+-- For the private functions: a holder's items in one pass, where their order counts. RuleLaws.keeps_is says what it comes to.
 use Rattle.std.specs.Prelude.{ℕ, Bool, false, ◌&&◌, List, eqb}
 use Rattle.items.specs.Items.{Walk, done, broken, item}
 

@@ -1,4 +1,4 @@
--- For the private functions: the sub-items of any list of kinds in one pass. KindLaws.passes-is says what it comes to.
+-- For the private functions: the sub-items of any list of kinds in one pass. KindLaws.passes_is says what it comes to.
 use Rattle.std.specs.Prelude.{ℕ, ◌+◌, ◌-◌, Bool, true, false, not, ◌&&◌, cond, List, [], ◌∷◌, map, take, drop, get_or, eqb}
 use Rattle.laws.specs.Lists.{any, among, same_bytes}
 use Rattle.items.specs.Items.{Walk, done, broken, item, bodies}

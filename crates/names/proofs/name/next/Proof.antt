@@ -1,4 +1,4 @@
--- `next` meets its contract. Each way through the code is a case of `nextPart`.
+-- `next` meets its contract. Each way through the code is a case of `next_part`.
 -- Assumes nothing.
 use Rattle.names.proofs.NameLaws.{next_laws}
 use Rattle.names.proofs.name.next.Statement.{statement}
