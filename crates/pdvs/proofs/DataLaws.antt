@@ -105,13 +105,6 @@ module _ (most : ℕ) (s : List ℕ) (at : ℕ) (v : Judging most s at) where
         sym (v.rest ∙ rw (q, ne_eqb 0 (length (drop at s)) (λ w. omega arith)))
 
     module _ (ne : e ≡ 0 → ⊥) where
-      -- its ID and its control byte are within
-      pub judge_id : at + 4 < length s
-      judge_id = let i = pdv_more s at e p ne in omega arith
-
-      pub judge_byte : at + 5 < length s
-      judge_byte = let i = pdv_more s at e p ne in omega arith
-
       -- one item further
       onwards : rest_ok most (drop at s) ≡ (eqb (size (pdvs (drop e s))) (length (drop e s)) && (pdv_ok most (pdv_at s at e) && all (pdv_ok most) (pdvs (drop e s))))
       onwards =
@@ -138,9 +131,7 @@ module _ (most : ℕ) (s : List ℕ) (at : ℕ) (v : Judging most s at) where
           let i = pdv_more s at e p ne in
           record { rest = v.rest ∙ (onwards ∙ rw (eq-eqb (get_or s (at + 4) 0 % 2) 1 o, le-leb (get_or s (at + 5) 0) most h)); to = omega arith }
 
--- apart, since a search that may count stops at these
-pub ruleset within_laws = (judge_id, judge_byte)
-
+-- the ways by themselves, for where a search that may count gives up
 pub ruleset judge_ways = (judge_none, judge_start, judge_end, judge_stop, judge_even, judge_control, judge_more)
 
 pub ruleset judge_laws = (judge_ways, parting)
