@@ -1,5 +1,8 @@
 -- The seven PDUs by kind, which is the type byte that each has: document 01, 'Valid PDUs'.
-use Rattle.std.specs.Prelude.{ℕ}
+use Rattle.std.specs.Prelude.{ℕ, ◌≡◌, false, ◌&&◌, leb, Option, None, Some, Result, MatchResult}
+use Rattle.numbers.specs.declared.kinds.Kind.{Kind}
+use Rattle.numbers.specs.declared.kinds.NoKind.{NoKind}
+use Rattle.numbers.specs.declared.kinds.Kind.TheVariants.{AssociateRq, AssociateAc, AssociateRj, DataTf, ReleaseRq, ReleaseRp, Abort}
 
 -- bytes that are none of them
 abbrev pub NO-KIND : ℕ
@@ -25,3 +28,22 @@ RELEASE-RP = 0x06
 
 abbrev pub ABORT : ℕ
 ABORT = 0x07
+
+-- ---- the code's kinds, by their type bytes
+abbrev pub type_byte : Kind → ℕ
+type_byte AssociateRq = ASSOCIATE-RQ
+type_byte AssociateAc = ASSOCIATE-AC
+type_byte AssociateRj = ASSOCIATE-RJ
+type_byte DataTf = DATA-TF
+type_byte ReleaseRq = RELEASE-RQ
+type_byte ReleaseRp = RELEASE-RP
+type_byte Abort = ABORT
+
+-- 0 for none
+abbrev pub kind_number : Option Kind → ℕ
+kind_number None = NO-KIND
+kind_number (Some k) = type_byte k
+
+-- a type byte was looked up: the kind that has it, or that it is none's
+abbrev pub Found : ℕ → Result Kind NoKind → Type 0
+Found byte r = MatchResult r (λ k. type_byte k ≡ byte) (λ e. leb ASSOCIATE-RQ byte && leb byte ABORT ≡ false)

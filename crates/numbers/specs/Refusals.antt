@@ -1,5 +1,7 @@
 -- Document 01, 'Refusal numbers'.
-use Rattle.std.specs.Prelude.{ℕ}
+use Rattle.std.specs.Prelude.{ℕ, Result, Ok, Err}
+use Rattle.numbers.specs.declared.refusals.Refusal.{Refusal}
+use Rattle.numbers.specs.declared.refusals.Refusal.TheVariants.{BlankCell, ShortOutput, ShortGather, BadContents, LongPdu, BrokenRecord, NoSuchPdu}
 
 abbrev pub NOT-REFUSED : ℕ
 NOT-REFUSED = 0
@@ -31,3 +33,18 @@ BROKEN-RECORD = 6
 -- "a reading call got bytes that are no whole valid PDU of the kind asked for"
 abbrev pub NO-SUCH-PDU : ℕ
 NO-SUCH-PDU = 7
+
+-- ---- the code's refusals, by their numbers
+abbrev pub refusal_number : Refusal → ℕ
+refusal_number BlankCell = BLANK-CELL
+refusal_number ShortOutput = SHORT-OUTPUT
+refusal_number ShortGather = SHORT-GATHER
+refusal_number BadContents = BAD-CONTENTS
+refusal_number LongPdu = LONG-PDU
+refusal_number BrokenRecord = BROKEN-RECORD
+refusal_number NoSuchPdu = NO-SUCH-PDU
+
+-- what an answer says of its refusal: 0 for none
+abbrev pub refusal_in : {T : Type 0} → Result T Refusal → ℕ
+refusal_in (Ok x) = NOT-REFUSED
+refusal_in (Err e) = refusal_number e
