@@ -15,15 +15,6 @@ use Rattle.association.specs.declared.Brings.{Brings}
 use Rattle.association.specs.Record.{Standing, standing, with_gathered, moved, cleared}
 use Rattle.association.specs.Performing.{requestor_after, entering, leaving, after, ten_for, ten_by}
 
-module _ (a : Assoc) where
-  pub enters_1 : a.state ≡ 1 → with_gathered (cleared (standing a)) 0 ≡ leaving (entering (standing a)) a.gathered
-  unfolding entering leaving
-  enters_1 e = rw (eq-eqb a.state 1 e) (rw (eq-eqb a.state 1 e))
-
-  pub enters_else : (a.state ≡ 1 → ⊥) → a ≡ leaving (entering (standing a)) a.gathered
-  unfolding entering leaving
-  enters_else e = rw (ne_eqb a.state 1 e) (rw (ne_eqb a.state 1 e))
-
 -- where nothing was gathered
 pub leaves_none : (s : Standing) → leaving s 0 ≡ with_gathered s 0
 unfolding leaving
@@ -32,14 +23,6 @@ leaves_none s = by (eqb s.state 1)
     by : (b : Bool) → with_gathered s (cond b 0 0) ≡ with_gathered s 0
     by true = refl
     by false = refl
-
-pub is_after : (action : ℕ) (a : Assoc) (b : Brings) (n s : ℕ) (t q : Bool) (r : Assoc)
-    → s ≡ next_of action b.accepts a.requestor → t ≡ artim_of action b.accepts a.artim → q ≡ requestor_after action (standing a)
-    → r ≡ leaving (entering (moved s t q b)) n → r ≡ leaving (after action (standing a) b) n
-unfolding after
-is_after action a b n s t q r es et eq er = rw (er, es, et, eq)
-
-pub ruleset performing_laws = (rules, enters_1, enters_else, is_after)
 
 -- ---- `ten_by`: the numbers that the table's code answers, one after the other
 unfoldable pub ten_numbered : ℕ → ℕ → ℕ

@@ -5,42 +5,42 @@ ghost use Rattle.association.specs.Performing.{requestor_after, entering as ente
 
 use crate::{Assoc, Brings};
 
+#[tactic(auto, unfolding(crate::specs::Performing::requestor_after))]
 fn requestor_after(action: u8, a: Assoc) -> bool
     ensures { result ≡ requestor_after action (standing a) }
 {
-    if action == table::AE_1 {
-        return true;
-    }
-    a.requestor
+    action == table::AE_1 || a.requestor
 }
 
+#[tactic(auto, unfolding(crate::specs::Performing::entering, crate::specs::Performing::leaving))]
 fn entering(a: Assoc) -> Assoc
     ensures { result ≡ leaving (enteringOf (standing a)) a.gathered }
 {
-    let state = a.state;
-    if state != 1 {
+    if a.state != 1 {
         return a;
     }
-    let mut next = a;
-    next.gathered = 0;
-    next.deaf = false;
-    next.requestor = false;
-    next.peer_max = 0;
-    next
+    Assoc {
+        gathered: 0,
+        deaf: false,
+        requestor: false,
+        peer_max: 0,
+        ..a
+    }
 }
 
 // The record after an action, where so many bytes were gathered.
+#[tactic(auto, unfolding(crate::specs::Performing::after))]
 pub fn after(action: u8, a: Assoc, b: Brings, gathered: usize) -> Assoc
     ensures { result ≡ leaving (after_of action (standing a) b) gathered }
 {
-    let mut next = a;
-    next.state = table::next_state(action, b.accepts, a.requestor);
-    next.gathered = gathered;
-    next.deaf = b.deaf;
-    next.artim = table::artim_after(action, b.accepts, a.artim);
-    next.requestor = requestor_after(action, a);
-    next.peer_max = b.peer_max;
-    entering(next)
+    entering(Assoc {
+        state: table::next_state(action, b.accepts, a.requestor),
+        gathered,
+        deaf: b.deaf,
+        artim: table::artim_after(action, b.accepts, a.artim),
+        requestor: requestor_after(action, a),
+        peer_max: b.peer_max,
+    })
 }
 
 // The number of the ten-byte PDU that an action sends by itself, 0 for none; `abort` is that of AA-7 and AA-8.
