@@ -2,69 +2,79 @@
 #![tactic(auto)]
 
 ghost use Rattle.std.specs.Prelude.{◌≡◌};
+ghost use Rattle.std.specs.Fn.{FnOnceReturnsAtMut};
+ghost use Rattle.numbers.specs.Refusals.{refusal_in};
 ghost use Rattle.user_items.specs.Sent.{user_of};
 ghost use Rattle.writing.specs.Fields.{rq_of, ac_of, reject_of, items_of};
 ghost use Rattle.writing.specs.Form.{Wrote};
 ghost use Rattle.association.specs.Events.{carries as carriesOf, Local.plain, Local.confirm, Local.accept, Local.reject, Local.send};
 ghost use Rattle.association.specs.Machine.{plain_form};
 ghost use Rattle.association.specs.Calls.{call, local_of};
-ghost use Rattle.requests.specs.Private.Gates.{gate_refusal, finish_of};
+ghost use Rattle.requests.specs.Private.Gates.{gate_refusal, finish_of, Went};
 
 use association::{Answer, Assoc, Brings, Told};
+use numbers::Refusal;
 use writing::Sent;
 
 // What refuses a local event before its contents are looked at.
-fn gate(a: Assoc, gather: &[u8], action: u8) -> u8
-    ensures { result ≡ gate_refusal a gather.now action }
+#[tactic(auto, using(crate::proofs::RequestLaws::gate_record, crate::proofs::RequestLaws::gate_blank, crate::proofs::RequestLaws::gate_open))]
+fn gate(a: Assoc, gather: &[u8], action: u8) -> Result<(), Refusal>
+    ensures { refusal_in result ≡ gate_refusal a gather.now action }
 {
-    let number = association::record_refusal(a, gather, a.gathered);
-    if number != numbers::NOT_REFUSED {
-        return number;
-    }
+    association::record_refusal(a, gather, a.gathered)?;
     if action == table::NO_ACTION {
-        return numbers::BLANK_CELL;
+        return Err(Refusal::BlankCell);
     }
-    numbers::NOT_REFUSED
+    Ok(())
 }
 
 // Refused by the writer of its PDU, or the action is done.
 fn finish(a: Assoc, action: u8, s: Sent) -> Answer
     ensures { result ≡ finish_of a action s }
 {
-    let refusal = s.refusal;
-    let sent = s.count;
-    if refusal != numbers::NOT_REFUSED {
-        return association::refused(refusal, a);
+    if s.refusal != numbers::NOT_REFUSED {
+        return association::refused(s.refusal, a);
     }
     let b = Brings {
         accepts: false,
         peer_max: a.peer_max,
         deaf: a.deaf,
     };
-    let assoc = association::after(action, a, b, a.gathered);
     Answer {
         told: Told {
-            refusal,
+            refusal: s.refusal,
             action,
             used: 0,
-            sent,
+            sent: s.count,
             shown: 0,
         },
-        assoc,
+        assoc: association::after(action, a, b, a.gathered),
+    }
+}
+
+// A local event whose PDU `write` writes: refused at the gate, or by the writer, or its action is done.
+fn local<F: FnOnce(&mut [u8]) -> Sent>(a: Assoc, action: u8, gather: &[u8], out: &mut [u8], write: F) -> Answer
+    requires { F.IsAlwaysCallable write }
+    ensures { Went a gather.now action result (λ s. FnOnceReturnsAtMut F.FnOnce write out.old s out.new) (out.new ≡ out.old) }
+{
+    match gate(a, gather, action) {
+        Ok(()) => finish(a, action, write(out)),
+        Err(refusal) => association::refused(refusal.number(), a),
     }
 }
 
 // Whether an event has contents, which a bare number cannot carry.
+#[tactic(auto, unfolding(association::specs::Events::carries, laws::specs::Lists::among))]
 fn carries(number: u8) -> bool
     ensures { result ≡ carriesOf number }
 {
-    match number {
-        table::TRANSPORT_CONFIRM => true,
-        table::ACCEPT_RESPONSE => true,
-        table::REJECT_RESPONSE => true,
-        table::DATA_REQUEST => true,
-        _ => false,
-    }
+    matches!(
+        number,
+        table::TRANSPORT_CONFIRM
+            | table::ACCEPT_RESPONSE
+            | table::REJECT_RESPONSE
+            | table::DATA_REQUEST
+    )
 }
 
 // Writes what the action of an event without contents sends by itself.
@@ -96,12 +106,7 @@ pub fn event(a: Assoc, number: u8, gather: &[u8], out: &mut [u8]) -> Answer
     ensures { call result gather.now out.new ≡ local_of a gather.now out.old (plain number) }
 {
     let action = association::local_cell(number, a.state);
-    let refusal = gate(a, gather, action);
-    if refusal != numbers::NOT_REFUSED {
-        return association::refused(refusal, a);
-    }
-    let sent = write_plain(number, action, out);
-    finish(a, action, sent)
+    local(a, action, gather, out, |out| write_plain(number, action, out))
 }
 
 // The transport confirmation, with the fields of the RQ to be sent.
@@ -122,11 +127,7 @@ pub fn confirm(
     ensures { call result gather.now out.new ≡ local_of a gather.now out.old (confirm (rq_of called.now calling.now application.now (user_of class_uid.now version_name.now invoked performed roles.now) sheet.now)) }
 {
     let action = association::local_cell(table::TRANSPORT_CONFIRM, a.state);
-    let refusal = gate(a, gather, action);
-    if refusal != numbers::NOT_REFUSED {
-        return association::refused(refusal, a);
-    }
-    let sent = writing_associate::write_request(
+    local(a, action, gather, out, |out| writing_associate::write_request(
         called,
         calling,
         application,
@@ -137,8 +138,7 @@ pub fn confirm(
         roles,
         sheet,
         out,
-    );
-    finish(a, action, sent)
+    ))
 }
 
 // The accept response, with the RQ's bytes that the AC echoes and the fields of the AC to be sent.
@@ -158,11 +158,7 @@ pub fn accept(
     ensures { call result gather.now out.new ≡ local_of a gather.now out.old (accept (ac_of echoed.now application.now (user_of class_uid.now version_name.now invoked performed roles.now) sheet.now)) }
 {
     let action = association::local_cell(table::ACCEPT_RESPONSE, a.state);
-    let refusal = gate(a, gather, action);
-    if refusal != numbers::NOT_REFUSED {
-        return association::refused(refusal, a);
-    }
-    let sent = writing_associate::write_accept(
+    local(a, action, gather, out, |out| writing_associate::write_accept(
         echoed,
         application,
         class_uid,
@@ -172,8 +168,7 @@ pub fn accept(
         roles,
         sheet,
         out,
-    );
-    finish(a, action, sent)
+    ))
 }
 
 // The reject response.
@@ -181,12 +176,7 @@ pub fn reject(a: Assoc, res: u8, source: u8, reason: u8, gather: &[u8], out: &mu
     ensures { call result gather.now out.new ≡ local_of a gather.now out.old (reject (reject_of res source reason)) }
 {
     let action = association::local_cell(table::REJECT_RESPONSE, a.state);
-    let refusal = gate(a, gather, action);
-    if refusal != numbers::NOT_REFUSED {
-        return association::refused(refusal, a);
-    }
-    let sent = writing::write_reject(res, source, reason, out);
-    finish(a, action, sent)
+    local(a, action, gather, out, |out| writing::write_reject(res, source, reason, out))
 }
 
 // A P-DATA request: its PDV items in wire form.
@@ -194,10 +184,5 @@ pub fn send(a: Assoc, items: &[u8], gather: &[u8], out: &mut [u8]) -> Answer
     ensures { call result gather.now out.new ≡ local_of a gather.now out.old (send (items_of items.now)) }
 {
     let action = association::local_cell(table::DATA_REQUEST, a.state);
-    let refusal = gate(a, gather, action);
-    if refusal != numbers::NOT_REFUSED {
-        return association::refused(refusal, a);
-    }
-    let sent = writing::write_data(items, a.peer_max, out);
-    finish(a, action, sent)
+    local(a, action, gather, out, |out| writing::write_data(items, a.peer_max, out))
 }

@@ -1,5 +1,5 @@
 -- For the private functions: what refuses a local event before its contents are looked at, and what follows once its PDU is written.
-use Rattle.std.specs.Prelude.{ℕ, cond, List, [], ◌∷◌, ◌++◌, eqb}
+use Rattle.std.specs.Prelude.{ℕ, ◌≡◌, ◌⊎◌, cond, List, [], ◌∷◌, ◌++◌, eqb}
 use Rattle.laws.specs.Refusals.{first_due}
 use Rattle.numbers.specs.Refusals.{NOT-REFUSED, BLANK-CELL}
 use Rattle.writing.specs.declared.Sent.{Sent}
@@ -24,3 +24,9 @@ done_locally a action sent =
 -- the writer refused, or the action is done
 unfoldable pub finish_of : Assoc → ℕ → Sent → Answer
 finish_of a action s = cond (eqb s.refusal NOT-REFUSED) (done_locally a action s.count) (refused_with s.refusal a)
+
+-- a local event went: refused at the gate, with the output as it was, or finished as its writer, of which `Writes` says what it answered, lets it
+abbrev pub Went : Assoc → List ℕ → ℕ → Answer → (Sent → Type 0) → Type 0 → Type 0
+Went a g action r Writes Kept =
+    ((¬ (gate_refusal a g action ≡ NOT-REFUSED)) × (r ≡ refused_with (gate_refusal a g action) a) × Kept)
+    ⊎ ((gate_refusal a g action ≡ NOT-REFUSED) × ((s : Sent) × Writes s × (r ≡ finish_of a action s)))
