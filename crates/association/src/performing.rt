@@ -4,6 +4,7 @@ ghost use Rattle.association.specs.Record.{standing};
 ghost use Rattle.association.specs.Performing.{requestor_after, entering as enteringOf, leaving, after as after_of, ten_by};
 
 use crate::{Assoc, Brings};
+use table::Sends;
 
 #[tactic(auto, unfolding(crate::specs::Performing::requestor_after))]
 fn requestor_after(action: u8, a: Assoc) -> bool
@@ -44,15 +45,16 @@ pub fn after(action: u8, a: Assoc, b: Brings, gathered: usize) -> Assoc
 }
 
 // The number of the ten-byte PDU that an action sends by itself, 0 for none; `abort` is that of AA-7 and AA-8.
+#[tactic(auto, using(crate::proofs::PerformingLaws::ten_sent))]
 pub fn ten_by(action: u8, accepts: bool, abort: u8) -> u8
     ensures { result ≡ ten_by action accepts abort }
 {
     match table::sends(action, accepts) {
-        table::SENDS_REJECT_VERSION => writing::REJECT_VERSION,
-        table::SENDS_RELEASE_RQ => writing::TEN_RELEASE_RQ,
-        table::SENDS_RELEASE_RP => writing::TEN_RELEASE_RP,
-        table::SENDS_ABORT_USER => writing::ABORT_USER,
-        table::SENDS_ABORT_PROVIDER => abort,
-        _ => writing::NO_TEN,
+        Sends::Nothing | Sends::Contents => writing::NO_TEN,
+        Sends::RejectVersion => writing::REJECT_VERSION,
+        Sends::ReleaseRq => writing::TEN_RELEASE_RQ,
+        Sends::ReleaseRp => writing::TEN_RELEASE_RP,
+        Sends::AbortUser => writing::ABORT_USER,
+        Sends::AbortProvider => abort,
     }
 }

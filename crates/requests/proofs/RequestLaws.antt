@@ -29,7 +29,6 @@ use Rattle.association.specs.Events.{Local, Local.plain, carries}
 use Rattle.association.specs.Performing.{brings_nothing, leaving, after, ten_by}
 use Rattle.association.specs.Machine.{doing, local_cell, local_action, plain_form, form_at, on_local}
 use Rattle.association.specs.Calls.{call, unless, local_refusal, local_of}
-use Rattle.association.proofs.RefusalLaws.{tests}
 use Rattle.requests.specs.Private.Gates.{gate_refusal, done_locally, finish_of, Went}
 
 -- ---- `gate`
