@@ -4,15 +4,11 @@ use Prim.Native.Nat.{ℕ}
 use mathlib.Core.Path.{◌≡◌, refl, sym}
 use mathlib.Core.Bool.{Bool, true, false, cond}
 use lib.Dec.{eqb}
-use borrow.Author.Rules.{rules}
-use borrow.Author.Tests.{eq-eqb, ne_eqb}
-use Rattle.table.specs.Actions.{Sends, sends_number, does_of, next_of, artim_of}
+use Rattle.table.specs.Actions.{Sends, sends_number, does_of}
 use Rattle.table.specs.Actions.{Sends.nothing, Sends.contents, Sends.reject_version, Sends.release_rq, Sends.release_rp, Sends.abort_user, Sends.abort_provider}
 use Rattle.writing.specs.Ten.{NO-TEN, REJECT-VERSION, TEN-RELEASE-RQ, TEN-RELEASE-RP, ABORT-USER}
-use Rattle.association.specs.declared.Assoc.{Assoc}
-use Rattle.association.specs.declared.Brings.{Brings}
-use Rattle.association.specs.Record.{Standing, standing, with_gathered, moved, cleared}
-use Rattle.association.specs.Performing.{requestor_after, entering, leaving, after, ten_for, ten_by}
+use Rattle.association.specs.Record.{Standing, with_gathered}
+use Rattle.association.specs.Performing.{leaving, ten_for, ten_by}
 
 -- where nothing was gathered
 pub leaves_none : (s : Standing) → leaving s 0 ≡ with_gathered s 0

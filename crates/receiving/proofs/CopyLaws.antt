@@ -1,7 +1,7 @@
 -- Copying bytes of a piece behind those gathered: how many are wanted, and a run in one copy or in two.
 -- Assumes nothing.
 use Prim.Native.Nat.{ℕ, ◌+◌, ◌-◌, ◌≤◌, ◌<◌}
-use mathlib.Core.Path.{◌≡◌, refl, sym, ap, ◌∙◌}
+use mathlib.Core.Path.{◌≡◌, sym, ap, ◌∙◌}
 use Rattle.std.specs.Prelude.{min}
 use mathlib.Core.List.{List, ◌++◌}
 use native.Mathlib.Nat.{add-sub_of_le}

@@ -1,24 +1,21 @@
 -- From what the callees answer to what an event does: a law for each function between.
 -- Assumes nothing.
 use Prim.Native.Nat.{ℕ, ◌≤◌}
-use mathlib.Core.Path.{◌≡◌, ap, ◌∙◌}
-use mathlib.Core.Bool.{Bool, true, false, cond, ◌||◌}
+use mathlib.Core.Path.{◌≡◌, ◌∙◌}
+use mathlib.Core.Bool.{Bool, true, false, cond}
 use mathlib.Core.List.{List}
 use native.Mathlib.Omega.{arith}
-use lib.Dec.{eqb}
 use lib.ListN.{length, get_or}
 use borrow.Author.Rules.{rules}
-use borrow.Author.Tests.{eq-eqb, ne_eqb}
 use Rattle.numbers.specs.Refusals.{NOT-REFUSED}
 use Rattle.numbers.specs.Lengths.{TEN}
 use Rattle.octets.specs.Put.{Placed}
 use Rattle.framing.specs.Framing.{Brought.pdu, Brought.over_length}
 use Rattle.framing.specs.Reference.{Reaction}
-use Rattle.table.specs.ActionNames.{AE-3}
 use Rattle.table.specs.Actions.{shows_of}
 use Rattle.table.specs.EventNames.{INVALID-RECEIVED}
 use Rattle.table.specs.Table.{cell_of}
-use Rattle.judging.specs.Pdu.{kind_of, maximum_of}
+use Rattle.judging.specs.Pdu.{kind_of}
 use Rattle.writing.specs.Ten.{ten_of, ABORT-INVALID}
 use Rattle.writing.proofs.TenLaws.{ten_length, ten_out, ten_count}
 use Rattle.association.specs.declared.Assoc.{Assoc}
@@ -26,7 +23,7 @@ use Rattle.association.specs.declared.Answer.{Answer}
 use Rattle.association.specs.declared.Brings.{Brings}
 use Rattle.association.specs.Record.{Standing, standing}
 use Rattle.association.specs.Events.{event_of_kind, event_of}
-use Rattle.association.specs.Performing.{accepts_at, peer_at, brings, leaving, after, abort_for, ten_by}
+use Rattle.association.specs.Performing.{brings, leaving, after, abort_for, ten_by}
 use Rattle.association.specs.Machine.{Seen, doing, on_event, upper}
 use Rattle.association.proofs.PerformingLaws.{leaves_none}
 use Rattle.receiving.specs.Private.Reactions.{tell_of, Done}

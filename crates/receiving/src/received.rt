@@ -47,7 +47,11 @@ fn done(a: Assoc, x: Doing, used: usize, len: usize, out: &mut [u8]) -> Answer
     } = x;
     let ten = association::ten_by(action, brings.accepts, abort);
     let sent = writing::write_ten(ten, out);
-    let shown = if table::shows(action, brings.accepts) { len } else { 0 };
+    let shown = if table::shows(action, brings.accepts) {
+        len
+    } else {
+        0
+    };
     let assoc = association::after(action, a, brings, 0);
     Answer {
         told: Told {

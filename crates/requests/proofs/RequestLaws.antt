@@ -1,7 +1,7 @@
 -- From what the callees of a local event leave to what the call is.
 -- Assumes nothing.
 use Prim.Native.Nat.{ℕ, ◌≤◌, ◌<◌}
-use mathlib.Core.Path.{◌≡◌, refl, ◌∙◌}
+use mathlib.Core.Path.{◌≡◌, refl}
 use mathlib.Core.Logic.{inl, inr}
 use mathlib.Core.Bool.{Bool, true, false, cond}
 use mathlib.Core.List.{List, [], ◌∷◌, ◌++◌}
@@ -25,9 +25,9 @@ use Rattle.association.specs.declared.Assoc.{Assoc}
 use Rattle.association.specs.declared.Answer.{Answer}
 use Rattle.association.specs.Record.{standing}
 use Rattle.association.specs.Refusals.{record_tests, record_refusal, refused_with}
-use Rattle.association.specs.Events.{Local, Local.plain, carries}
+use Rattle.association.specs.Events.{Local, carries}
 use Rattle.association.specs.Performing.{brings_nothing, leaving, after, ten_by}
-use Rattle.association.specs.Machine.{doing, local_cell, local_action, plain_form, form_at, on_local}
+use Rattle.association.specs.Machine.{doing, local_action, plain_form, form_at, on_local}
 use Rattle.association.specs.Calls.{call, unless, local_refusal, local_of}
 use Rattle.requests.specs.Private.Gates.{gate_refusal, done_locally, finish_of, Went}
 

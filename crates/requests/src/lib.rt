@@ -53,7 +53,13 @@ fn finish(a: Assoc, action: u8, s: Sent) -> Answer
 }
 
 // A local event whose PDU `write` writes: refused at the gate, or by the writer, or its action is done.
-fn local<F: FnOnce(&mut [u8]) -> Sent>(a: Assoc, action: u8, gather: &[u8], out: &mut [u8], write: F) -> Answer
+fn local<F: FnOnce(&mut [u8]) -> Sent>(
+    a: Assoc,
+    action: u8,
+    gather: &[u8],
+    out: &mut [u8],
+    write: F,
+) -> Answer
     requires { F.IsAlwaysCallable write }
     ensures { Went a gather.now action result (λ s. FnOnceReturnsAtMut F.FnOnce write out.old s out.new) (out.new ≡ out.old) }
 {
@@ -106,7 +112,13 @@ pub fn event(a: Assoc, number: u8, gather: &[u8], out: &mut [u8]) -> Answer
     ensures { call result gather.now out.new ≡ local_of a gather.now out.old (plain number) }
 {
     let action = association::local_cell(number, a.state);
-    local(a, action, gather, out, |out| write_plain(number, action, out))
+    local(
+        a,
+        action,
+        gather,
+        out,
+        |out| write_plain(number, action, out),
+    )
 }
 
 // The transport confirmation, with the fields of the RQ to be sent.
@@ -127,18 +139,24 @@ pub fn confirm(
     ensures { call result gather.now out.new ≡ local_of a gather.now out.old (confirm (rq_of called.now calling.now application.now (user_of class_uid.now version_name.now invoked performed roles.now) sheet.now)) }
 {
     let action = association::local_cell(table::TRANSPORT_CONFIRM, a.state);
-    local(a, action, gather, out, |out| writing_associate::write_request(
-        called,
-        calling,
-        application,
-        class_uid,
-        version_name,
-        invoked,
-        performed,
-        roles,
-        sheet,
+    local(
+        a,
+        action,
+        gather,
         out,
-    ))
+        |out| writing_associate::write_request(
+            called,
+            calling,
+            application,
+            class_uid,
+            version_name,
+            invoked,
+            performed,
+            roles,
+            sheet,
+            out,
+        ),
+    )
 }
 
 // The accept response, with the RQ's bytes that the AC echoes and the fields of the AC to be sent.
@@ -158,17 +176,23 @@ pub fn accept(
     ensures { call result gather.now out.new ≡ local_of a gather.now out.old (accept (ac_of echoed.now application.now (user_of class_uid.now version_name.now invoked performed roles.now) sheet.now)) }
 {
     let action = association::local_cell(table::ACCEPT_RESPONSE, a.state);
-    local(a, action, gather, out, |out| writing_associate::write_accept(
-        echoed,
-        application,
-        class_uid,
-        version_name,
-        invoked,
-        performed,
-        roles,
-        sheet,
+    local(
+        a,
+        action,
+        gather,
         out,
-    ))
+        |out| writing_associate::write_accept(
+            echoed,
+            application,
+            class_uid,
+            version_name,
+            invoked,
+            performed,
+            roles,
+            sheet,
+            out,
+        ),
+    )
 }
 
 // The reject response.
@@ -176,7 +200,13 @@ pub fn reject(a: Assoc, res: u8, source: u8, reason: u8, gather: &[u8], out: &mu
     ensures { call result gather.now out.new ≡ local_of a gather.now out.old (reject (reject_of res source reason)) }
 {
     let action = association::local_cell(table::REJECT_RESPONSE, a.state);
-    local(a, action, gather, out, |out| writing::write_reject(res, source, reason, out))
+    local(
+        a,
+        action,
+        gather,
+        out,
+        |out| writing::write_reject(res, source, reason, out),
+    )
 }
 
 // A P-DATA request: its PDV items in wire form.
@@ -184,5 +214,11 @@ pub fn send(a: Assoc, items: &[u8], gather: &[u8], out: &mut [u8]) -> Answer
     ensures { call result gather.now out.new ≡ local_of a gather.now out.old (send (items_of items.now)) }
 {
     let action = association::local_cell(table::DATA_REQUEST, a.state);
-    local(a, action, gather, out, |out| writing::write_data(items, a.peer_max, out))
+    local(
+        a,
+        action,
+        gather,
+        out,
+        |out| writing::write_data(items, a.peer_max, out),
+    )
 }

@@ -6,7 +6,7 @@ use Rattle.requests.proofs.RequestLaws.{goes}
 use Rattle.requests.proofs.event.Goals as goal
 
 pub returns : goal.returns
-returns c = 
+returns c =
     goes _ _ _ _ _ c.local_cell-action.ensures _ _ _
     (λ s w. let wrote : Wrote (plain_form c.args.number c.local_cell-action.result) c.args.out.now s c.local.new.out = search rules in rw c.local_cell-action.ensures at wrote)
     c.local.ensures
