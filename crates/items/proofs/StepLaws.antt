@@ -8,13 +8,13 @@ use lib.ListN.{length, take, drop, get_or, length-drop}
 use lib.Seq.{length-take-le, take_all}
 use borrow.Author.Rules.{rules}
 use borrow.Author.Tests.{le-leb, lt-leb}
-use Rattle.std.specs.Prelude.{Option, Some, None}
+use Rattle.std.specs.Prelude.{Some, None}
 use Rattle.laws.specs.Parts.{part_end}
 use Rattle.laws.proofs.Parts.{any_length}
 use Rattle.octets.specs.Octets.{be16}
 use Rattle.items.specs.Items.{walk, done, broken, item, item_end}
 use Rattle.items.specs.Steps.{place_or_none}
-use Rattle.items.proofs.WalkLaws.{walk_nil, Item, more, stop}
+use Rattle.items.proofs.WalkLaws.{walk_nil, more, stop}
 
 -- ---- `item_end`
 some_place : (n : ℕ) → 0 < n → place_or_none n ≡ Some n
@@ -47,6 +47,7 @@ pub record First (s : List ℕ) (e : ℕ) : Type 0 where
   pub eq : walk s ≡ item (get_or s 0 0) (take (e - 4) (drop 4 s)) (walk (behind s e))
   pub size : 4 + length (take (e - 4) (drop 4 s)) ≡ e
   pub more : length (behind s e) ≡ length s - e
+  pub rest : behind s e ≡ drop (4 + length (take (e - 4) (drop 4 s))) s
 
 place_is : (m e : ℕ) → Some e ≡ place_or_none m → (e ≡ m) × (e ≡ 0 → ⊥)
 place_is zero e p = absurd (cc)
@@ -59,7 +60,8 @@ there s e p =
     let f : 4 ≤ e = let f = i.from in omega arith in
     let d = length-drop 4 s in
     let l : length (take (e - 4) (drop 4 s)) ≡ e - 4 = length-take-le (e - 4) (drop 4 s) (let t = i.to in omega arith) in
-    record { from = f; to = i.to; eq = rw (behind_is s e) i.eq; size = omega arith; more = rw (behind_is s e) (length-drop e s) }
+    let z : 4 + length (take (e - 4) (drop 4 s)) ≡ e = omega arith in
+    record { from = f; to = i.to; eq = rw (behind_is s e) i.eq; size = z; more = rw (behind_is s e) (length-drop e s); rest = rw z (behind_is s e) }
 
 none_is : (m : ℕ) → None ≡ place_or_none m → m ≡ 0
 none_is zero p = refl

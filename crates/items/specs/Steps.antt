@@ -1,5 +1,5 @@
 -- The items of a holder's bytes, gone through one after another: where they begin, and what each step of the iterator gives.
-use Rattle.std.specs.Prelude.{ℕ, zero, suc, ◌+◌, ◌≡◌, ◌<◌, List, [], length, Option, Some, None, MatchOption, Result, MatchResult}
+use Rattle.std.specs.Prelude.{ℕ, zero, suc, ◌+◌, ◌≡◌, ◌<◌, List, [], length, drop, Option, Some, None, MatchOption, Result, MatchResult}
 use Rattle.std.specs.Borrow.{Bor}
 use Rattle.octets.specs.Slice.{PartOf}
 use Rattle.items.specs.Items.{Walk, walk, done, broken, item}
@@ -24,7 +24,7 @@ left s = walk (rest_of s).now
 pub record Gives (s : Items) (x : Item) (t : Items) : Type 0 where
   pub walk : left s ≡ item x.kind x.body.now (left t)
   pub body : PartOf (rest_of s) 4 x.body.now x.body
-  pub rest : PartOf (rest_of s) (4 + length x.body.now) (rest_of t).now (rest_of t)
+  pub rest : PartOf (rest_of s) (4 + length x.body.now) (drop (4 + length x.body.now) (rest_of s).now) (rest_of t)
   pub whole : 4 + length x.body.now + length (rest_of t).now ≡ length (rest_of s).now
 
 -- none does, and nothing is left: the empty part at the place where the items end

@@ -62,7 +62,10 @@ impl<'a> Iterator for Items<'a> {
             return Some(Err(Broken));
         };
         self.rest = &s[end..];
-        Some(Ok(Item { kind: s[0], body: &s[4..end] }))
+        Some(Ok(Item {
+            kind: s[0],
+            body: &s[4..end],
+        }))
     }
 }
 

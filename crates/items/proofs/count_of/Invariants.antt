@@ -7,5 +7,5 @@ use Rattle.items.proofs.count_of.Given as goal
 abbrev pub invariant-loop-item : goal.invariant-loop-item
 invariant-loop-item l = record {
   count : length (bodies l.t (walk l.s)) ≡ l.n + length (bodies l.t (left l.item-iterator));
-  below : l.n + length (rest_of l.item-iterator).now ≤ length l.s
+  below : l.n + length (rest_of l.item-iterator).now ≤ length l.s;
 }

@@ -8,5 +8,5 @@ abbrev pub invariant-loop-item : goal.invariant-loop-item
 invariant-loop-item l = record {
   body : first (bodies l.t (left l.initial.items)) ≡ first (bodies l.t (left l.items));
   block : (rest_of l.items).ref_ptr.0 ≡ (rest_of l.initial.items).ref_ptr.0;
-  place : (rest_of l.items).ref_ptr.1 + place l.t (left l.items) ≡ (rest_of l.initial.items).ref_ptr.1 + place l.t (left l.initial.items)
+  place : (rest_of l.items).ref_ptr.1 + place l.t (left l.items) ≡ (rest_of l.initial.items).ref_ptr.1 + place l.t (left l.initial.items);
 }

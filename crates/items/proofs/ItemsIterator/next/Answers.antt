@@ -34,6 +34,6 @@ returns-clause-steps c =
     record {
       walk = f.eq;
       body = record { block = refl; place = omega arith; bytes = refl };
-      rest = record { block = refl; place = omega arith; bytes = refl };
-      whole = omega arith
+      rest = record { block = refl; place = omega arith; bytes = f.rest };
+      whole = omega arith;
     }
