@@ -16,8 +16,8 @@ use Rattle.numbers.proofs.NumberLaws.{refusal_some}
 use Rattle.laws.proofs.Refusals.{due_both}
 use Rattle.octets.specs.Put.{front, Placed}
 use Rattle.octets.proofs.PutLaws.{placed_put}
-use Rattle.writing.specs.declared.Sent.{Sent}
-use Rattle.writing.specs.Form.{form_tests, form_refusal, Wrote}
+use Rattle.std.specs.Prelude.{Result, Ok, Err}
+use Rattle.writing.specs.Form.{sent, form_tests, form_refusal, Wrote}
 use Rattle.writing.specs.Ten.{ten_of, NO-TEN}
 use Rattle.writing.proofs.FormLaws.{refusal_is, refused_kept, sent_count, out_is, wrote_bad, wrote_short, wrote_fine}
 use Rattle.writing.proofs.TenLaws.{ten_length}
@@ -46,19 +46,6 @@ module _ (a : Assoc) (g : List ℕ) (action : ℕ) where
 
     pub gate_open : (action ≡ 0 → ⊥) → 0 ≡ gate_refusal a g action
     gate_open h = rw (steps, ← z, ne_eqb action 0 h)
-
--- ---- `finish`
-module _ (a : Assoc) (action : ℕ) (s : Sent) where
-  pub finish_refused : (r : Answer) → (s.refusal ≡ 0 → ⊥) → r ≡ refused_with s.refusal a → r ≡ finish_of a action s
-  unfolding finish_of
-  finish_refused r n e = rw (ne_eqb s.refusal 0 n) e
-
-  pub finish_done : (n : Assoc) → s.refusal ≡ 0 → n ≡ leaving (after action (standing a) (brings_nothing (standing a))) a.gathered
-      → ◌≡◌ {A = Answer} (record { told = record { refusal = s.refusal; action = action; used = 0; sent = s.count; shown = 0 }; assoc = n }) (finish_of a action s)
-  unfolding finish_of done_locally
-  finish_done n z e = rw (eq-eqb s.refusal 0 z, z, e)
-
-pub ruleset finish_laws = (rules, finish_refused, finish_done)
 
 -- ---- `write_plain`
 module _ (number action : ℕ) (o : List ℕ) (x : Bool) (ex : x ≡ carries number) where
@@ -91,18 +78,23 @@ module _ (a : Assoc) (g o : List ℕ) (e : Local) (action : ℕ) (ea : action �
   shut : (r : Answer) → ((gate_refusal a g action ≡ 0) → ⊥) → r ≡ refused_with (gate_refusal a g action) a → call r g o ≡ local_of a g o e
   shut r h er = rw (er, went, ne_eqb (gate_refusal a g action) 0 h) (rw (ne_eqb (gate_refusal a g action) 0 h))
 
-  finished : gate_refusal a g action ≡ 0 → (s : Sent) (o' : List ℕ) (r : Answer) → Wrote (form_at (standing a) e) o s o' → r ≡ finish_of a action s
-      → call r g o' ≡ local_of a g o e
-  unfolding finish_of
-  finished z s o' r W er = rw (went, eq-eqb (gate_refusal a g action) 0 z, ← refusal_is (form_at (standing a) e) o s o' W, er) (by (eqb s.refusal 0) refl)
-    where
-      by : (b : Bool) → eqb s.refusal 0 ≡ b
-          → call (cond b (done_locally a action s.count) (refused_with s.refusal a)) g o'
-          ≡ cond b (call (done_locally a action (length (form_at (standing a) e).pdu)) g (front o (form_at (standing a) e).pdu)) (call (refused_with s.refusal a) g o)
-      by true q = rw (sent_count (form_at (standing a) e) o s o' W (eqb-true _ _ q), out_is (form_at (standing a) e) o s o' W (eqb-true _ _ q))
-      by false q = rw (refused_kept (form_at (standing a) e) o s o' W (eqb-false _ _ q))
+  -- by the number of the writer's refusal
+  finish_is : (w : Result ℕ Refusal) → finish_of a action w ≡ cond (eqb (sent w).refusal 0) (done_locally a action (sent w).count) (refused_with (sent w).refusal a)
+  finish_is (Ok n) = refl
+  finish_is (Err e) = rw (ne_eqb (refusal_number e) 0 (refusal_some e))
 
-  pub goes : (o' : List ℕ) (r : Answer) (Writes : Sent → Type 0) → ((s : Sent) → Writes s → Wrote (form_at (standing a) e) o s o') → Went a g action r Writes (o' ≡ o)
+  finished : gate_refusal a g action ≡ 0 → (w : Result ℕ Refusal) (o' : List ℕ) (r : Answer) → Wrote (form_at (standing a) e) o (sent w) o' → r ≡ finish_of a action w
       → call r g o' ≡ local_of a g o e
+  finished z w o' r W er =
+      rw (went, eq-eqb (gate_refusal a g action) 0 z, ← refusal_is (form_at (standing a) e) o (sent w) o' W, er, finish_is w) (by (eqb (sent w).refusal 0) refl)
+    where
+      by : (b : Bool) → eqb (sent w).refusal 0 ≡ b
+          → call (cond b (done_locally a action (sent w).count) (refused_with (sent w).refusal a)) g o'
+          ≡ cond b (call (done_locally a action (length (form_at (standing a) e).pdu)) g (front o (form_at (standing a) e).pdu)) (call (refused_with (sent w).refusal a) g o)
+      by true q = rw (sent_count (form_at (standing a) e) o (sent w) o' W (eqb-true _ _ q), out_is (form_at (standing a) e) o (sent w) o' W (eqb-true _ _ q))
+      by false q = rw (refused_kept (form_at (standing a) e) o (sent w) o' W (eqb-false _ _ q))
+
+  pub goes : (o' : List ℕ) (r : Answer) (Writes : Result ℕ Refusal → Type 0) → ((w : Result ℕ Refusal) → Writes w → Wrote (form_at (standing a) e) o (sent w) o')
+      → Went a g action r Writes (o' ≡ o) → call r g o' ≡ local_of a g o e
   goes o' r Writes W (inl x) = rw x.2 (shut r x.0 x.1)
   goes o' r Writes W (inr x) = finished x.0 x.1.0 o' r (W x.1.0 x.1.1) x.1.2

@@ -4,17 +4,17 @@
 ghost use Rattle.std.specs.Prelude.{◌≡◌};
 ghost use Rattle.std.specs.Fn.{FnOnceReturnsAtMut};
 ghost use Rattle.numbers.specs.Refusals.{refusal_in};
-ghost use Rattle.user_items.specs.Sent.{user_of};
-ghost use Rattle.writing.specs.Fields.{rq_of, ac_of, reject_of, items_of};
-ghost use Rattle.writing.specs.Form.{Wrote};
+ghost use Rattle.writing.specs.Fields.{reject_of, items_of};
+ghost use Rattle.writing.specs.Form.{Wrote, sent};
+ghost use Rattle.writing_associate.specs.Said.{rq_said, ac_said};
 ghost use Rattle.association.specs.Events.{carries as carriesOf, Local.plain, Local.confirm, Local.accept, Local.reject, Local.send};
 ghost use Rattle.association.specs.Machine.{plain_form};
 ghost use Rattle.association.specs.Calls.{call, local_of};
-ghost use Rattle.requests.specs.Private.Gates.{gate_refusal, finish_of, Went};
+ghost use Rattle.requests.specs.Private.Gates.{gate_refusal, done_locally, Went};
 
 use association::{Answer, Assoc, Brings, Told};
 use numbers::Refusal;
-use writing::Sent;
+use writing_associate::{Accept, Request};
 
 // What refuses a local event before its contents are looked at.
 #[tactic(auto, using(crate::proofs::RequestLaws::gate_record, crate::proofs::RequestLaws::gate_blank, crate::proofs::RequestLaws::gate_open))]
@@ -28,32 +28,30 @@ fn gate(a: Assoc, gather: &[u8], action: u8) -> Result<(), Refusal>
     Ok(())
 }
 
-// Refused by the writer of its PDU, or the action is done.
-fn finish(a: Assoc, action: u8, s: Sent) -> Answer
-    ensures { result ≡ finish_of a action s }
+// The action is done, with so many bytes sent.
+#[tactic(auto, unfolding(crate::specs::Private::Gates::done_locally))]
+fn done(a: Assoc, action: u8, sent: usize) -> Answer
+    ensures { result ≡ done_locally a action sent }
 {
-    if s.refusal != numbers::NOT_REFUSED {
-        return association::refused(s.refusal, a);
-    }
-    let b = Brings {
+    let brings = Brings {
         accepts: false,
         peer_max: a.peer_max,
         deaf: a.deaf,
     };
     Answer {
         told: Told {
-            refusal: s.refusal,
+            refusal: numbers::NOT_REFUSED,
             action,
             used: 0,
-            sent: s.count,
+            sent,
             shown: 0,
         },
-        assoc: association::after(action, a, b, a.gathered),
+        assoc: association::after(action, a, brings, a.gathered),
     }
 }
 
 // A local event whose PDU `write` writes: refused at the gate, or by the writer, or its action is done.
-fn local<F: FnOnce(&mut [u8]) -> Sent>(
+fn local<F: FnOnce(&mut [u8]) -> Result<usize, Refusal>>(
     a: Assoc,
     action: u8,
     gather: &[u8],
@@ -61,10 +59,13 @@ fn local<F: FnOnce(&mut [u8]) -> Sent>(
     write: F,
 ) -> Answer
     requires { F.IsAlwaysCallable write }
-    ensures { Went a gather.now action result (λ s. FnOnceReturnsAtMut F.FnOnce write out.old s out.new) (out.new ≡ out.old) }
+    ensures { Went a gather.now action result (λ w. FnOnceReturnsAtMut F.FnOnce write out.old w out.new) (out.new ≡ out.old) }
 {
-    match gate(a, gather, action) {
-        Ok(()) => finish(a, action, write(out)),
+    if let Err(refusal) = gate(a, gather, action) {
+        return association::refused(refusal.number(), a);
+    }
+    match write(out) {
+        Ok(sent) => done(a, action, sent),
         Err(refusal) => association::refused(refusal.number(), a),
     }
 }
@@ -84,27 +85,17 @@ fn carries(number: u8) -> bool
 }
 
 // Writes what the action of an event without contents sends by itself.
-fn write_plain(number: u8, action: u8, out: &mut [u8]) -> Sent
-    ensures { Wrote (plain_form number action) out.old result out.new }
+fn write_plain(number: u8, action: u8, out: &mut [u8]) -> Result<usize, Refusal>
+    ensures { Wrote (plain_form number action) out.old (sent result) out.new }
 {
     if carries(number) {
-        return Sent {
-            refusal: numbers::BAD_CONTENTS,
-            count: 0,
-        };
+        return Err(Refusal::BadContents);
     }
     let ten = association::ten_by(action, false, writing::NO_TEN);
     if out.len() < writing::ten_len(ten) {
-        return Sent {
-            refusal: numbers::SHORT_OUTPUT,
-            count: 0,
-        };
+        return Err(Refusal::ShortOutput);
     }
-    let count = writing::write_ten(ten, out);
-    Sent {
-        refusal: numbers::NOT_REFUSED,
-        count,
-    }
+    Ok(writing::write_ten(ten, out))
 }
 
 // A local event by its number, 1 to 19 in the row order of Table 9-10: one of the seven without contents.
@@ -122,77 +113,23 @@ pub fn event(a: Assoc, number: u8, gather: &[u8], out: &mut [u8]) -> Answer
 }
 
 // The transport confirmation, with the fields of the RQ to be sent.
-pub fn confirm(
-    a: Assoc,
-    called: &[u8],
-    calling: &[u8],
-    application: &[u8],
-    class_uid: &[u8],
-    version_name: &[u8],
-    invoked: u16,
-    performed: u16,
-    roles: &[u8],
-    sheet: &[u8],
-    gather: &[u8],
-    out: &mut [u8],
-) -> Answer
-    ensures { call result gather.now out.new ≡ local_of a gather.now out.old (confirm (rq_of called.now calling.now application.now (user_of class_uid.now version_name.now invoked performed roles.now) sheet.now)) }
+pub fn confirm(a: Assoc, fields: Request<'_>, gather: &[u8], out: &mut [u8]) -> Answer
+    ensures { call result gather.now out.new ≡ local_of a gather.now out.old (confirm (rq_said fields.entry)) }
 {
     let action = association::local_cell(table::TRANSPORT_CONFIRM, a.state);
-    local(
-        a,
-        action,
-        gather,
-        out,
-        |out| writing_associate::write_request(
-            called,
-            calling,
-            application,
-            class_uid,
-            version_name,
-            invoked,
-            performed,
-            roles,
-            sheet,
-            out,
-        ),
-    )
+    local(a, action, gather, out, |out| {
+        writing_associate::write_request(fields, out)
+    })
 }
 
-// The accept response, with the RQ's bytes that the AC echoes and the fields of the AC to be sent.
-pub fn accept(
-    a: Assoc,
-    echoed: &[u8],
-    application: &[u8],
-    class_uid: &[u8],
-    version_name: &[u8],
-    invoked: u16,
-    performed: u16,
-    roles: &[u8],
-    sheet: &[u8],
-    gather: &[u8],
-    out: &mut [u8],
-) -> Answer
-    ensures { call result gather.now out.new ≡ local_of a gather.now out.old (accept (ac_of echoed.now application.now (user_of class_uid.now version_name.now invoked performed roles.now) sheet.now)) }
+// The accept response, with the fields of the AC to be sent.
+pub fn accept(a: Assoc, fields: Accept<'_>, gather: &[u8], out: &mut [u8]) -> Answer
+    ensures { call result gather.now out.new ≡ local_of a gather.now out.old (accept (ac_said fields.entry)) }
 {
     let action = association::local_cell(table::ACCEPT_RESPONSE, a.state);
-    local(
-        a,
-        action,
-        gather,
-        out,
-        |out| writing_associate::write_accept(
-            echoed,
-            application,
-            class_uid,
-            version_name,
-            invoked,
-            performed,
-            roles,
-            sheet,
-            out,
-        ),
-    )
+    local(a, action, gather, out, |out| {
+        writing_associate::write_accept(fields, out)
+    })
 }
 
 // The reject response.

@@ -1,4 +1,4 @@
--- One law for each way out.
+-- `write_plain`: an event with contents, no room, or the ten bytes.
 use Rattle.requests.proofs.RequestLaws.{plain_laws}
 use Rattle.requests.proofs.write_plain.Goals as goal
 

@@ -1,8 +1,8 @@
 -- For the private functions: what refuses a local event before its contents are looked at, and what follows once its PDU is written.
-use Rattle.std.specs.Prelude.{ℕ, ◌≡◌, ◌⊎◌, cond, List, [], ◌∷◌, ◌++◌, eqb}
+use Rattle.std.specs.Prelude.{ℕ, ◌≡◌, ◌⊎◌, List, [], ◌∷◌, ◌++◌, eqb, Result, Ok, Err}
 use Rattle.laws.specs.Refusals.{first_due}
-use Rattle.numbers.specs.Refusals.{NOT-REFUSED, BLANK-CELL}
-use Rattle.writing.specs.declared.Sent.{Sent}
+use Rattle.numbers.specs.declared.refusals.Refusal.{Refusal}
+use Rattle.numbers.specs.Refusals.{NOT-REFUSED, BLANK-CELL, refusal_number}
 use Rattle.association.specs.declared.Assoc.{Assoc}
 use Rattle.association.specs.declared.Answer.{Answer}
 use Rattle.association.specs.Record.{standing}
@@ -22,11 +22,12 @@ done_locally a action sent =
     }
 
 -- the writer refused, or the action is done
-unfoldable pub finish_of : Assoc → ℕ → Sent → Answer
-finish_of a action s = cond (eqb s.refusal NOT-REFUSED) (done_locally a action s.count) (refused_with s.refusal a)
+abbrev pub finish_of : Assoc → ℕ → Result ℕ Refusal → Answer
+finish_of a action (Ok sent) = done_locally a action sent
+finish_of a action (Err refusal) = refused_with (refusal_number refusal) a
 
 -- a local event went: refused at the gate, with the output as it was, or finished as its writer, of which `Writes` says what it answered, lets it
-abbrev pub Went : Assoc → List ℕ → ℕ → Answer → (Sent → Type 0) → Type 0 → Type 0
+abbrev pub Went : Assoc → List ℕ → ℕ → Answer → (Result ℕ Refusal → Type 0) → Type 0 → Type 0
 Went a g action r Writes Kept =
     ((¬ (gate_refusal a g action ≡ NOT-REFUSED)) × (r ≡ refused_with (gate_refusal a g action) a) × Kept)
-    ⊎ ((gate_refusal a g action ≡ NOT-REFUSED) × ((s : Sent) × Writes s × (r ≡ finish_of a action s)))
+    ⊎ ((gate_refusal a g action ≡ NOT-REFUSED) × ((w : Result ℕ Refusal) × Writes w × (r ≡ finish_of a action w)))
