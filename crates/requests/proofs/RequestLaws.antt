@@ -2,7 +2,6 @@
 -- Assumes nothing.
 use Prim.Native.Nat.{ℕ, ◌≤◌, ◌<◌}
 use mathlib.Core.Path.{◌≡◌, refl}
-use mathlib.Core.Logic.{inl, inr}
 use mathlib.Core.Bool.{Bool, true, false, cond}
 use mathlib.Core.List.{List, [], ◌∷◌, ◌++◌}
 use native.Mathlib.Omega.{arith}
@@ -25,11 +24,11 @@ use Rattle.association.specs.declared.Assoc.{Assoc}
 use Rattle.association.specs.declared.Answer.{Answer}
 use Rattle.association.specs.Record.{standing}
 use Rattle.association.specs.Refusals.{record_tests, record_refusal, refused_with}
-use Rattle.association.specs.Events.{Local, carries}
+use Rattle.association.specs.Events.{Local, Local.plain, carries}
 use Rattle.association.specs.Performing.{brings_nothing, leaving, after, ten_by}
-use Rattle.association.specs.Machine.{doing, local_action, plain_form, form_at, on_local}
+use Rattle.association.specs.Machine.{doing, local_cell, local_action, plain_form, form_at, on_local}
 use Rattle.association.specs.Calls.{call, unless, local_refusal, local_of}
-use Rattle.requests.specs.Private.Gates.{gate_refusal, done_locally, finish_of, Went}
+use Rattle.requests.specs.Private.Gates.{gate_refusal, done_locally, finish_of}
 
 -- ---- `gate`
 module _ (a : Assoc) (g : List ℕ) (action : ℕ) where
@@ -44,7 +43,7 @@ module _ (a : Assoc) (g : List ℕ) (action : ℕ) where
     pub gate_blank : action ≡ 0 → BLANK-CELL ≡ gate_refusal a g action
     gate_blank h = rw (steps, ← z, eq-eqb action 0 h)
 
-    pub gate_open : (action ≡ 0 → ⊥) → 0 ≡ gate_refusal a g action
+    pub gate_open : (action ≡ 0 → ⊥) → gate_refusal a g action ≡ 0
     gate_open h = rw (steps, ← z, ne_eqb action 0 h)
 
 -- ---- `write_plain`
@@ -67,26 +66,29 @@ module _ (number action : ℕ) (o : List ℕ) (x : Bool) (ex : x ≡ carries num
 pub ruleset plain_laws = (rules, plain_bad, plain_short, plain_fine)
 
 -- ---- a local event: refused at the gate, or as the writer says
-module _ (a : Assoc) (g o : List ℕ) (e : Local) (action : ℕ) (ea : action ≡ local_action (standing a) e) where
+module _ (a : Assoc) (g o : List ℕ) (e : Local) where
+  abbrev action : ℕ
+  action = local_action (standing a) e
+
   went : local_of a g o e
       ≡ unless (cond (eqb (gate_refusal a g action) 0) (form_refusal (form_at (standing a) e) (length o)) (gate_refusal a g action)) a g o
       (call (done_locally a action (length (form_at (standing a) e).pdu)) g (front o (form_at (standing a) e).pdu))
   unfolding local_of local_refusal gate_refusal form_refusal on_local doing done_locally
   went =
-      rw (ea, ← due_both (record_tests a g a.gathered ++ ((eqb (local_action (standing a) e) 0, BLANK-CELL) ∷ [])) (form_tests (form_at (standing a) e) (length o)) refl)
+      rw (← due_both (record_tests a g a.gathered ++ ((eqb (local_action (standing a) e) 0, BLANK-CELL) ∷ [])) (form_tests (form_at (standing a) e) (length o)) refl)
 
-  shut : (r : Answer) → ((gate_refusal a g action ≡ 0) → ⊥) → r ≡ refused_with (gate_refusal a g action) a → call r g o ≡ local_of a g o e
-  shut r h er = rw (er, went, ne_eqb (gate_refusal a g action) 0 h) (rw (ne_eqb (gate_refusal a g action) 0 h))
+  pub shut_at : (w : Refusal) → refusal_number w ≡ gate_refusal a g action → (r : Answer) → r ≡ refused_with (refusal_number w) a → call r g o ≡ local_of a g o e
+  shut_at w q r er = rw (er, went, ← q, ne_eqb (refusal_number w) 0 (refusal_some w)) (rw (ne_eqb (refusal_number w) 0 (refusal_some w)))
 
   -- by the number of the writer's refusal
   finish_is : (w : Result ℕ Refusal) → finish_of a action w ≡ cond (eqb (sent w).refusal 0) (done_locally a action (sent w).count) (refused_with (sent w).refusal a)
   finish_is (Ok n) = refl
   finish_is (Err e) = rw (ne_eqb (refusal_number e) 0 (refusal_some e))
 
-  finished : gate_refusal a g action ≡ 0 → (w : Result ℕ Refusal) (o' : List ℕ) (r : Answer) → Wrote (form_at (standing a) e) o (sent w) o' → r ≡ finish_of a action w
-      → call r g o' ≡ local_of a g o e
-  finished z w o' r W er =
-      rw (went, eq-eqb (gate_refusal a g action) 0 z, ← refusal_is (form_at (standing a) e) o (sent w) o' W, er, finish_is w) (by (eqb (sent w).refusal 0) refl)
+  pub finish_at : (n : ℕ) → (n ≡ action) × (gate_refusal a g action ≡ 0) → (w : Result ℕ Refusal) (o' : List ℕ) (r : Answer) → Wrote (form_at (standing a) e) o (sent w) o'
+      → r ≡ finish_of a n w → call r g o' ≡ local_of a g o e
+  finish_at n (en, z) w o' r W er =
+      rw (went, eq-eqb (gate_refusal a g action) 0 z, ← refusal_is (form_at (standing a) e) o (sent w) o' W, er, en, finish_is w) (by (eqb (sent w).refusal 0) refl)
     where
       by : (b : Bool) → eqb (sent w).refusal 0 ≡ b
           → call (cond b (done_locally a action (sent w).count) (refused_with (sent w).refusal a)) g o'
@@ -94,7 +96,8 @@ module _ (a : Assoc) (g o : List ℕ) (e : Local) (action : ℕ) (ea : action �
       by true q = rw (sent_count (form_at (standing a) e) o (sent w) o' W (eqb-true _ _ q), out_is (form_at (standing a) e) o (sent w) o' W (eqb-true _ _ q))
       by false q = rw (refused_kept (form_at (standing a) e) o (sent w) o' W (eqb-false _ _ q))
 
-  pub goes : (o' : List ℕ) (r : Answer) (Writes : Result ℕ Refusal → Type 0) → ((w : Result ℕ Refusal) → Writes w → Wrote (form_at (standing a) e) o (sent w) o')
-      → Went a g action r Writes (o' ≡ o) → call r g o' ≡ local_of a g o e
-  goes o' r Writes W (inl x) = rw x.2 (shut r x.0 x.1)
-  goes o' r Writes W (inr x) = finished x.0 x.1.0 o' r (W x.1.0 x.1.1) x.1.2
+-- by its number alone
+pub plain_at : (a : Assoc) (g o : List ℕ) (number n : ℕ) → (n ≡ local_cell number a.state) × (gate_refusal a g (local_cell number a.state) ≡ 0)
+    → (w : Result ℕ Refusal) (o' : List ℕ) (r : Answer) → Wrote (plain_form number n) o (sent w) o' → r ≡ finish_of a n w → call r g o' ≡ local_of a g o (plain number)
+plain_at a g o number n x w o' r W er = finish_at a g o (plain number) n x w o' r (rw x.0 at W) er
+

@@ -1,5 +1,5 @@
 -- For the private functions: what refuses a local event before its contents are looked at, and what follows once its PDU is written.
-use Rattle.std.specs.Prelude.{ℕ, ◌≡◌, ◌⊎◌, List, [], ◌∷◌, ◌++◌, eqb, Result, Ok, Err}
+use Rattle.std.specs.Prelude.{ℕ, ◌≡◌, List, [], ◌∷◌, ◌++◌, eqb, Result, Ok, Err, MatchResult}
 use Rattle.laws.specs.Refusals.{first_due}
 use Rattle.numbers.specs.declared.refusals.Refusal.{Refusal}
 use Rattle.numbers.specs.Refusals.{NOT-REFUSED, BLANK-CELL, refusal_number}
@@ -26,8 +26,6 @@ abbrev pub finish_of : Assoc → ℕ → Result ℕ Refusal → Answer
 finish_of a action (Ok sent) = done_locally a action sent
 finish_of a action (Err refusal) = refused_with (refusal_number refusal) a
 
--- a local event went: refused at the gate, with the output as it was, or finished as its writer, of which `Writes` says what it answered, lets it
-abbrev pub Went : Assoc → List ℕ → ℕ → Answer → (Result ℕ Refusal → Type 0) → Type 0 → Type 0
-Went a g action r Writes Kept =
-    ((¬ (gate_refusal a g action ≡ NOT-REFUSED)) × (r ≡ refused_with (gate_refusal a g action) a) × Kept)
-    ⊎ ((gate_refusal a g action ≡ NOT-REFUSED) × ((w : Result ℕ Refusal) × Writes w × (r ≡ finish_of a action w)))
+-- an event with this action went through the gate, or was refused there
+abbrev pub Admitted : Assoc → List ℕ → ℕ → Result ℕ Refusal → Type 0
+Admitted a g action r = MatchResult r (λ n. (n ≡ action) × (gate_refusal a g action ≡ NOT-REFUSED)) (λ e. refusal_number e ≡ gate_refusal a g action)
