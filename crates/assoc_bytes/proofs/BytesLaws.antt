@@ -1,8 +1,9 @@
 -- An association as bytes: there and back, and each way through the code that makes one of the other.
 -- Assumes nothing.
-use Prim.Native.Nat.{ℕ, zero, suc, ◌^◌, ◌<◌, ◌≤◌}
+use Prim.Native.Nat.{ℕ, zero, suc, ◌+◌, ◌/◌, ◌%◌, ◌^◌, ◌<◌, ◌≤◌}
 use native.Mathlib.Omega.{arith}
-use mathlib.Core.Path.{◌≡◌, refl, ◌∙◌}
+use native.Mathlib.Nat.{pow-suc}
+use mathlib.Core.Path.{◌≡◌, refl, sym, ap, ◌∙◌}
 use mathlib.Core.Bool.{Bool, true, false}
 use mathlib.Core.List.{List, [], ◌∷◌, ◌++◌}
 use lib.ListN.{length, get_or}
@@ -10,6 +11,7 @@ use borrow.Author.Rules.{rules}
 use Rattle.association.specs.declared.Assoc.{Assoc}
 use Rattle.assoc_bytes.specs.Low.{low, low_at}
 use Rattle.assoc_bytes.specs.Bytes.{byte_of, is_set, bytes_of, assoc_of}
+use Rattle.std.specs.Int.{w32, w64, bytes_low_first, to_le_bytes, from_le_bytes}
 use Rattle.assoc_bytes.proofs.LowLaws.{low_back, low_there, run, run_all}
 
 -- ---- there and back
@@ -46,16 +48,23 @@ bytes_back s l b d t q =
     (λ i. (get_or s 0 0 ∷ x i ∷ y i ∷ z i ∷ u i) ++ v i) ∙ run_all 16 s l
 
 -- ---- in code
-pub bytes_made : (a : Assoc) (d t q : ℕ) (p g : List ℕ) → d ≡ byte_of a.deaf → t ≡ byte_of a.artim → q ≡ byte_of a.requestor → p ≡ low 8 a.peer_max → g ≡ low 8 a.gathered
-    → a.state ∷ d ∷ t ∷ q ∷ get_or p 0 0 ∷ get_or p 1 0 ∷ get_or p 2 0 ∷ get_or p 3 0
+-- k bytes of n, from byte i upward, as std says them
+low_first : (i k n : ℕ) → bytes_low_first i k n ≡ low k (n / 256 ^ i)
+low_first i zero n = refl
+low_first zero (suc k) n = let one : n / 1 ≡ n = omega arith in rw one (ap (λ r. n % 256 ∷ r) (low_first 1 k n))
+low_first (suc i) (suc k) n =
+    let next : n / 256 ^ suc (suc i) ≡ n / 256 ^ suc i / 256 = rw (pow-suc 256 (suc i)) (sym (div-div n (256 ^ suc i) 256)) in
+    ap (λ r. n / 256 ^ suc i % 256 ∷ r) (low_first (suc (suc i)) k n ∙ ap (low k) next)
+
+low_le : (k n : ℕ) → bytes_low_first 0 k n ≡ low k n
+low_le k n = low_first 0 k n ∙ ap (low k) (let one : n / 1 ≡ n = omega arith in one)
+
+pub bytes_made : (a : Assoc) (p g : List ℕ) → p ≡ to_le_bytes w32 a.peer_max → g ≡ to_le_bytes w64 a.gathered
+    → a.state ∷ byte_of a.deaf ∷ byte_of a.artim ∷ byte_of a.requestor ∷ get_or p 0 0 ∷ get_or p 1 0 ∷ get_or p 2 0 ∷ get_or p 3 0
     ∷ get_or g 0 0 ∷ get_or g 1 0 ∷ get_or g 2 0 ∷ get_or g 3 0 ∷ get_or g 4 0 ∷ get_or g 5 0 ∷ get_or g 6 0 ∷ get_or g 7 0 ∷ []
     ≡ bytes_of a
 unfolding bytes_of
-bytes_made a d t q p g x y z u v = rw (x, y, z, u, v)
+bytes_made a p g u v = rw (u ∙ low_le 4 a.peer_max, v ∙ low_le 8 a.gathered)
 
-pub assoc_made : (s : List ℕ) (d t q : Bool) (p g : ℕ) → d ≡ is_set (get_or s 1 0) → t ≡ is_set (get_or s 2 0) → q ≡ is_set (get_or s 3 0) → p ≡ low_at 4 s 4 → g ≡ low_at 8 s 8
-    → record { state = get_or s 0 0; gathered = g; deaf = d; artim = t; requestor = q; peer_max = p } ≡ assoc_of s
-unfolding assoc_of
-assoc_made s d t q p g x y z u v = λ i. record { state = get_or s 0 0; gathered = v i; deaf = x i; artim = y i; requestor = z i; peer_max = u i }
-
-pub ruleset making = (bytes_made, assoc_made, rules)
+pub low_4 : (s : List ℕ) (at : ℕ) → from_le_bytes w32 (get_or s at 0 ∷ get_or s (at + 1) 0 ∷ get_or s (at + 2) 0 ∷ get_or s (at + 3) 0 ∷ []) ≡ low_at 4 s at
+low_4 s at = omega arith
