@@ -8,7 +8,6 @@ use association::{Answer, Assoc, Told};
 // Functions, and no `From`: record and bytes are both another crate's, where no impl may stand.
 
 // A record as its bytes, its numbers low byte first, as x86-64 has them.
-#[tactic(auto, using(crate::proofs::BytesLaws::bytes_made), unfolding(crate::specs::Bytes::bytes_of))]
 pub fn bytes_of(a: Assoc) -> [u8; 16]
     ensures { result ≡ bytes_of a }
 {
