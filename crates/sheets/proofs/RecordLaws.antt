@@ -105,17 +105,6 @@ cap_high n h = simp (lt-leb n 64 h)
 
 pub ruleset cap_laws = (rules, cap_low, cap_high)
 
-pub name_is : (l b : ℕ) (r : List ℕ) (n : ℕ) → n ≡ cap (get_or r l 0) → take (b + n - b) (drop b r) ≡ name_in l b r
-name_is l b r n e = rw (add-sub_cancel_left, e)
-
-pub part_is : (s : List ℕ) (at n : ℕ) → take (at + n - at) (drop at s) ≡ take n (drop at s)
-part_is s at n = rw add-sub_cancel_left
-
-pub part_long : (s : List ℕ) (at n : ℕ) → at + n ≤ length s → length (take (at + n - at) (drop at s)) ≡ n
-part_long s at n h = rw add-sub_cancel_left (length-take-le n (drop at s) (omega (arith, length-drop at s)))
-
-pub ruleset part_laws = (rules, part_is, part_long, name_is)
-
 -- a name that a record gives fits its field
 pub cap_most : (n : ℕ) → cap n ≤ 64
 unfolding cap
@@ -175,31 +164,14 @@ module _ (s : List ℕ) (at : ℕ) where
   unfolding name_at
   name_past l b h k = simp (lt-leb (at + 132) (length s) (omega arith))
 
--- a name of a whole record, as a part of the record's own part
-pub name_found : (s r x : Bor (List ℕ)) (l b at : ℕ) → 132 ≤ length s.now → at ≤ length s.now - 132 → PartOf s at (record_at s.now at) r
-    → PartOf r b (name_in l b r.now) x → PartOf s (name_start s.now at b) (name_at l b s.now at) x
-unfolding name_start name_at
-name_found s r x l b at h k e p = rw (le-leb (at + 132) (length s.now) (omega arith), ← e.bytes) (part_of_part e p)
+-- ---- a record by itself
+module _ (r : List ℕ) (h : length r ≡ 132) where
+  whole : record_at r 0 ≡ r
+  whole = take_all 132 r (omega arith)
 
-pub ruleset at_laws = (rules, name_none, name_past, start_none, start_past, place_from, name_found)
+  pub abstract_first : abstract_at r 0 ≡ abstract_of r
+  abstract_first = abstract_here r 0 (omega arith) ∙ ap abstract_of whole
 
--- ---- `goes_on`
-module _ (s : List ℕ) (at : ℕ) where
-  pub on_short : length s < 264 → false ≡ goes_on_at s at
-  unfolding goes_on_at
-  on_short h = simp (lt-leb (at + 132 + 132) (length s) (omega arith))
+  pub transfer_first : transfer_at r 0 ≡ transfer_of r
+  transfer_first = transfer_here r 0 (omega arith) ∙ ap transfer_of whole
 
-  pub on_past : 264 ≤ length s → length s - 264 < at → false ≡ goes_on_at s at
-  unfolding goes_on_at
-  on_past h l = simp (lt-leb (at + 132 + 132) (length s) (omega arith))
-
-  module _ (h : 264 ≤ length s) (l : at ≤ length s - 264) where
-    pub on_other : (get_or s at 0 ≡ get_or s (at + 132) 0 → ⊥) → false ≡ goes_on_at s at
-    unfolding goes_on_at
-    on_other n = simp (le-leb (at + 132 + 132) (length s) (omega arith), ne_eqb _ _ n)
-
-    pub on_same : (a b : List ℕ) (d : Bool) → get_or s at 0 ≡ get_or s (at + 132) 0 → a ≡ abstract_at s at → b ≡ abstract_at s (at + 132) → d ≡ same_bytes a b → d ≡ goes_on_at s at
-    unfolding goes_on_at
-    on_same a b d i p q t = t ∙ (rw (p, q) (simp (le-leb (at + 132 + 132) (length s) (omega arith), eq-eqb _ _ i)))
-
-pub ruleset on_laws = (rules, on_short, on_past, on_other, on_same)
