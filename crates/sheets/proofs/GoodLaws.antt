@@ -1,31 +1,36 @@
 -- Laws of good records and sheets: each way through the tests, and that the records tested one by one give the rule over the contexts.
 -- Assumes nothing.
-use Prim.Native.Nat.{ℕ, zero, suc, ◌+◌, ◌-◌, ◌*◌, ◌%◌, ◌≤◌, ◌<◌}
+use Prim.Native.Nat.{ℕ, zero, suc, ◌+◌, ◌*◌, ◌%◌, ◌≤◌, ◌<◌}
 use native.Mathlib.Omega.{arith}
-use mathlib.Core.Bool.{Bool, true, false, not, ◌&&◌, cond, and-false, and-true}
+use mathlib.Core.Bool.{Bool, true, false, ◌&&◌, cond, and-false}
 use mathlib.Core.List.{List, [], ◌∷◌, map}
 use mathlib.Core.Path.{◌≡◌, refl, sym, ap, ◌∙◌}
 use lib.ListN.{length, take, drop, get_or, length-drop, length-map}
-use lib.Seq.{drop-drop}
+use lib.Seq.{drop-drop, take_all}
 use lib.Dec.{leb, eqb}
-use borrow.Author.Rules.{rules}
-use borrow.Author.Tests.{le-leb, lt-leb, eq-eqb, ne_eqb, eqb-true, eqb-false, not-true, not-false}
+use borrow.Author.Tests.{le-leb, eq-eqb, ne_eqb, eqb-true, eqb-false}
+use Rattle.std.specs.List.{list_all}
 use Rattle.laws.specs.Lists.{all, empty, distinct, same_bytes}
-use Rattle.laws.proofs.Booleans.{left_of, right_of, both_of, held}
-use Rattle.laws.proofs.Places.{at_end, all_passes, all_fails, all_end, part_tail}
-use Rattle.laws.proofs.Tests.{and_step, no_here, call_not, call_yes, decide}
+use Rattle.laws.proofs.Booleans.{left_of, right_of, held}
+use Rattle.laws.proofs.Library.{all_list}
 use Rattle.laws.proofs.Same.{same_equal}
 use Rattle.names.specs.Name.{name_ok}
 use Rattle.octets.specs.Octets.{odd}
-use Rattle.sheets.specs.Contexts.{Context, context_id, answered_id, context_ok, transfer_name_ok, answered_ok, contexts_ok, all_answered_ok}
+use Rattle.sheets.specs.Contexts.{Context, context_id, answered_id, context_ok, answered_ok, contexts_ok, all_answered_ok}
 use Rattle.sheets.specs.Sheet.{record_id, abstract_of, transfer_of, records_of, goes_on, first_transfers, others, start, sheet_runs, contexts_in, answered_of, answers_in, zero?, field_ok, fields_ok, proposes, proposal_record, site_record, answers, proposal_ok, answers_ok, site_ok}
 use Rattle.sheets.specs.Record.{record_at}
-use Rattle.sheets.specs.Private.OneRecord.{answer_record, record_ok, sheet_ok, ids_in}
-use Rattle.sheets.specs.declared.good.Kind.{Kind}
-use Rattle.sheets.specs.declared.good.Kind.TheVariants.{Proposal, Answer, Site}
-use Rattle.sheets.proofs.RunLaws.{records_cons, records_none, record_here, contexts_here, contexts_none, no_run}
+use Rattle.sheets.specs.Private.OneRecord.{answer_record}
+use Rattle.sheets.proofs.RunLaws.{records_cons, records_none, no_run}
 
--- ---- `transfer_name_ok`
+-- ---- one record
+pub field_is : (n : ℕ) (f : List ℕ) (z : Bool) → n ≤ 64 → z ≡ list_all zero? (drop n f) → z ≡ field_ok n f
+unfolding field_ok
+field_is n f z h q = q ∙ (all_list zero? (drop n f) ∙ rw (le-leb n 64 h))
+
+pub fields_rest : (r : List ℕ) (b d : Bool) → length r ≡ 132 → b ≡ field_ok (get_or r 2 0) (take 64 (drop 4 r)) → b ≡ true → d ≡ field_ok (get_or r 3 0) (take 64 (drop 68 r)) → d ≡ fields_ok r
+unfolding fields_ok
+fields_rest r b d l q t y = let e = take_all 64 (drop 68 r) (omega (arith, length-drop 68 r)) in rw (← e) (y ∙ rw (← q, t))
+
 pub no_name : (x : List ℕ) → eqb (length x) 0 ≡ empty x
 no_name [] = refl
 no_name (y ∷ x) = ne_eqb (length (y ∷ x)) 0 (λ e. omega arith)
@@ -152,6 +157,26 @@ module _ (s : List ℕ) (m : length s % 132 ≡ 0) (h : 0 < length (records_of s
   pub site_is : all site_record (records_of s) ≡ site_ok s
   unfolding site_ok
   site_is = rw (eq-eqb _ _ m, le-leb 1 (length (records_of s)) h)
+
+-- by the answers of the calls: b of the tests of each, d of the IDs
+module _ (s : List ℕ) (rs : List (List ℕ)) (e : rs ≡ records_of s) (m : length s % 132 ≡ 0) (h : 0 < length rs) (b : Bool) where
+  some_records : 0 < length (records_of s)
+  some_records = rw (← e) h
+
+  pub proposal_bad : b ≡ list_all proposal_record rs → b ≡ false → b ≡ proposal_ok s
+  proposal_bad q t = t ∙ (sym (rw (← e, ← all_list proposal_record rs, ← q, t)) ∙ proposal_is s m some_records)
+
+  pub proposal_rest : (d : Bool) → b ≡ list_all proposal_record rs → b ≡ true → d ≡ distinct (map context_id (sheet_runs rs)) → d ≡ proposal_ok s
+  proposal_rest d q t i = i ∙ (sym (rw (← e, ← all_list proposal_record rs, ← q, t)) ∙ proposal_is s m some_records)
+
+  pub answers_bad : b ≡ list_all answer_record rs → b ≡ false → b ≡ answers_ok s
+  answers_bad q t = t ∙ (sym (rw (← e, ← all_list answer_record rs, ← q, t)) ∙ answers_is s m some_records)
+
+  pub answers_rest : (d : Bool) → b ≡ list_all answer_record rs → b ≡ true → d ≡ distinct (map record_id rs) → d ≡ answers_ok s
+  answers_rest d q t i = i ∙ (sym (rw (← e, ← all_list answer_record rs, ← q, t)) ∙ answers_is s m some_records)
+
+  pub site_by : b ≡ list_all site_record rs → b ≡ site_ok s
+  site_by q = q ∙ (all_list site_record rs ∙ (ap (all site_record) e ∙ site_is s m some_records))
 
 -- ---- one bad record, whatever the others and however many
 all_but : (p : List ℕ → Bool) (s : List ℕ) (k : ℕ) → 132 * k + 132 ≤ length s → p (record_at s (132 * k)) ≡ false → all p (records_of s) ≡ false

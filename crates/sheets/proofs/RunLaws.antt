@@ -1,20 +1,21 @@
 -- Laws of the contexts of a sheet: what a record at a place does to the contexts from there on, a run of records and its context, and the loops that look for an ID that comes twice.
 -- Assumes nothing.
-use Prim.Native.Nat.{ℕ, suc, ◌+◌, ◌≤◌, ◌<◌}
+use Prim.Native.Nat.{ℕ, zero, suc, ◌+◌, ◌-◌, ◌/◌, ◌≤◌, ◌<◌}
 use native.Mathlib.Omega.{arith}
 use mathlib.Core.Bool.{Bool, true, false, not}
 use mathlib.Core.List.{List, [], ◌∷◌, ◌++◌, map}
-use mathlib.Core.Path.{◌≡◌, refl, sym, ap, ◌∙◌}
+use mathlib.Core.Path.{◌≡◌, refl, sym, ap, subst, ◌∙◌}
 use lib.ListN.{length, take, drop, get_or, length-drop}
-use lib.Seq.{get_or-take, get_or-drop, drop-cons}
+use lib.Seq.{get_or-take, get_or-drop, drop-cons, drop-drop}
 use Rattle.std.proofs.lemmas.List.{drop_all}
 use native.Mathlib.Numerals.{add-one}
-use lib.Dec.{leb, eqb}
+use lib.Dec.{leb}
 use borrow.Author.Rules.{rules}
-use borrow.Author.Tests.{leb-true, leb-false, eqb-true, not-true, not-false}
+use borrow.Author.Tests.{le-leb, lt-leb, leb-true, leb-false, not-true, not-false}
 use Rattle.std.specs.List.{IsChunkByPrefix}
+use Rattle.std.specs.Simd.{first_chunks}
 use Rattle.laws.specs.Lists.{distinct}
-use Rattle.laws.proofs.Booleans.{left_of, held}
+use Rattle.laws.proofs.Booleans.{held}
 use Rattle.laws.proofs.Records.{rows_cons, rows_none, row_here}
 use Rattle.id_set.specs.IdSet.{is_in, Empty, With}
 use Rattle.id_set.proofs.SeenLaws.{fresh, fresh_start, fresh_none, fresh_seen, fresh_new}
@@ -60,6 +61,32 @@ result_here s at = get_or-take 132 (drop at s) 1 0 (omega arith) ∙ get_or-drop
 pub id_here : (s : List ℕ) (at : ℕ) → get_or (record_at s at) 0 0 ≡ get_or s at 0
 id_here s at = get_or-take 132 (drop at s) 0 0 (omega arith) ∙ (get_or-drop at s 0 0 ∙ ap (λ (n : ℕ). get_or s n 0) (omega arith))
 
+-- ---- `goes_on`: two records behind one another, and none where there are not two
+pub on_short : (s : List ℕ) (at : ℕ) → length s < at + 132 + 132 → false ≡ goes_on_at s at
+unfolding goes_on_at
+on_short s at h = simp (lt-leb (at + 132 + 132) (length s) h)
+
+pub on_two : (s : List ℕ) (at : ℕ) → at + 132 + 132 ≤ length s → same_run (record_at s at) (record_at s (at + 132)) ≡ goes_on_at s at
+unfolding goes_on_at same_run
+on_two s at h =
+    rw (id_here s at, id_here s (at + 132), ← abstract_here s at (omega arith), ← abstract_here s (at + 132) h) (simp (le-leb (at + 132 + 132) (length s) h))
+
+front_two : (l : List ℕ) (n : ℕ) → 2 ≤ n → first_chunks 132 n l ≡ take 132 l ∷ take 132 (drop 132 l) ∷ first_chunks 132 (n - 2) (drop 132 (drop 132 l))
+front_two l zero h = absurd (omega arith)
+front_two l (suc zero) h = absurd (omega arith)
+front_two l (suc (suc n)) h = let e : suc (suc n) - 2 ≡ n = omega arith in rw e
+
+module _ (s rest : List ℕ) (at : ℕ) (rs : List (List ℕ)) (e : rest ≡ drop at s) (f : rs ≡ first_chunks 132 (length rest / 132) rest) (l : length rs ≡ length rest / 132) where
+  pub on_few : length rs < 2 → false ≡ goes_on_at s at
+  on_few h = let g = ap length e in on_short s at (omega (arith, length-drop at s))
+
+  pub on_next : (d : Bool) → 2 ≤ length rs → d ≡ same_run (get_or rs 0 []) (get_or rs 1 []) → d ≡ goes_on_at s at
+  on_next d h q =
+      let g = ap length e in
+      q ∙ (rw (f, front_two rest (length rest / 132) (omega arith), e, drop-drop 132 at s) (on_two s at (omega (arith, length-drop at s))))
+
+pub ruleset on_laws = (rules, on_short, on_few, on_next)
+
 -- ---- what `goes_on` answers is whether the next context goes on the run
 pub no_run : (r : List ℕ) → goes_on r [] ≡ true → ⊥
 unfolding goes_on
@@ -94,6 +121,10 @@ run_new : (r : List ℕ) (cs : List Context) → goes_on r cs ≡ false → star
 unfolding start
 run_new r cs e = rw e
 
+none_on : (r : List ℕ) → goes_on r [] ≡ false
+unfolding goes_on
+none_on r = refl
+
 -- what is in front of a record says of it what `same_run` says
 next_on : (r q : List ℕ) (qs : List (List ℕ)) → goes_on r (sheet_runs (q ∷ qs)) ≡ same_run r q
 unfolding goes_on sheet_runs start same_run
@@ -103,30 +134,64 @@ next_on r q qs = refl
 pub run_front : (x rest : List (List ℕ)) → 0 < length x → IsChunkByPrefix same_run (x ++ rest) (length x) → sheet_runs (x ++ rest) ≡ run_context x ∷ sheet_runs rest
 unfolding sheet_runs run_context
 run_front [] rest h p = absurd (omega arith)
-run_front (r ∷ []) [] h p = run_new r [] refl
+run_front (r ∷ []) [] h p = run_new r [] (none_on r)
 run_front (r ∷ []) (q ∷ qs) h p = run_new r (sheet_runs (q ∷ qs)) (next_on r q qs ∙ p.1 (omega arith) [])
 run_front (r ∷ q ∷ ys) rest h p =
-    let front : IsChunkByPrefix same_run ((q ∷ ys) ++ rest) (length (q ∷ ys)) = (λ k d l. p.0 (suc k) d (omega arith), λ l d. p.1 (omega arith) d) in
+    let two : (k : ℕ) → suc k + 1 ≡ suc (k + 1) = λ k. omega arith in
+    let last : length (r ∷ q ∷ ys) - 1 ≡ suc (length (q ∷ ys) - 1) = omega arith in
+    let front : IsChunkByPrefix same_run ((q ∷ ys) ++ rest) (length (q ∷ ys)) = (λ k d l. rw (two k) at (p.0 (suc k) d (omega arith)), λ l d. rw last at (p.1 (omega arith) d)) in
     let one : sheet_runs ((q ∷ ys) ++ rest) ≡ run_context (q ∷ ys) ∷ sheet_runs rest = run_front (q ∷ ys) rest (omega arith) front in
     let on : goes_on r (sheet_runs ((q ∷ ys) ++ rest)) ≡ true = next_on r q (ys ++ rest) ∙ p.0 0 [] (omega arith) in
     ap (start r) one ∙ run_on r (run_context (q ∷ ys)) (sheet_runs rest) (ap (goes_on r) (sym one) ∙ on)
 
--- ---- `ids_differ`: no ID of the records gone over was seen twice, and the rest decides
-pub ids_start : (rs : List (List ℕ)) (seen : List ℕ) → Empty seen → distinct (map record_id rs) ≡ fresh seen (map record_id (drop 0 rs))
-ids_start rs seen e = fresh_start seen e (map record_id rs)
+-- ---- `ids_differ` and `runs_differ`: no ID of those gone over was seen twice, and the rest decides
+fresh_again : (seen : List ℕ) (x : ℕ) (xs : List ℕ) (new : Bool) → new ≡ not (is_in x seen) → not new ≡ true → fresh seen (x ∷ xs) ≡ false
+fresh_again seen x xs new q y = fresh_seen seen x xs (not-false (is_in x seen) (sym q ∙ not-true new y))
+
+fresh_more : (seen r : List ℕ) (x : ℕ) (xs : List ℕ) (new : Bool) → new ≡ not (is_in x seen) → not new ≡ false → With seen x r → fresh seen (x ∷ xs) ≡ fresh r xs
+fresh_more seen r x xs new q y w = fresh_new seen r x xs (not-true (is_in x seen) (sym q ∙ not-false new y)) w
+
+pub ids_start : (seen ids : List ℕ) → Empty seen → distinct ids ≡ fresh seen ids
+ids_start seen ids e = fresh_start seen e ids
 
 module _ (rs : List (List ℕ)) (seen : List ℕ) (i : ℕ) (all : Bool) (v : all ≡ fresh seen (map record_id (drop i rs))) where
   pub ids_over : length rs ≤ i → true ≡ all
   ids_over h = sym (v ∙ rw (drop_all i rs h) (fresh_none seen))
 
-  module _ (was : Bool) (h : i < length rs) (q : was ≡ is_in (record_id (get_or rs i [])) seen) where
+  module _ (new : Bool) (h : i < length rs) (q : new ≡ not (is_in (record_id (get_or rs i [])) seen)) where
     ids_here : drop i rs ≡ get_or rs i [] ∷ drop (i + 1) rs
     ids_here = rw add-one (drop-cons rs i [] h)
 
-    pub ids_seen : was ≡ true → false ≡ all
-    ids_seen y = sym (v ∙ rw ids_here (fresh_seen seen (record_id (get_or rs i [])) _ (sym q ∙ y)))
+    pub ids_seen : not new ≡ true → false ≡ all
+    ids_seen y = sym (v ∙ rw ids_here (fresh_again seen (record_id (get_or rs i [])) _ new q y))
 
-    pub ids_new : (r : List ℕ) → was ≡ false → With seen (record_id (get_or rs i [])) r → all ≡ fresh r (map record_id (drop (i + 1) rs))
-    ids_new r n m = v ∙ rw ids_here (fresh_new seen r (record_id (get_or rs i [])) _ (sym q ∙ n) m)
+    pub ids_new : (r : List ℕ) → not new ≡ false → With seen (record_id (get_or rs i [])) r → all ≡ fresh r (map record_id (drop (i + 1) rs))
+    ids_new r n m = v ∙ rw ids_here (fresh_more seen r (record_id (get_or rs i [])) _ new q n m)
 
 pub ruleset ids_laws = (rules, ids_start, ids_over, ids_seen, ids_new)
+
+module _ (rest : List (List ℕ)) (seen : List ℕ) (all : Bool) (v : all ≡ fresh seen (map context_id (sheet_runs rest))) where
+  pub runs_over : length rest ≡ 0 → true ≡ all
+  unfolding sheet_runs
+  runs_over h = go rest h v
+    where
+      go : (rs : List (List ℕ)) → length rs ≡ 0 → all ≡ fresh seen (map context_id (sheet_runs rs)) → true ≡ all
+      go [] h v = sym (v ∙ fresh_none seen)
+      go (r ∷ rs) h v = absurd (omega arith)
+
+  module _ (x more : List (List ℕ)) (e : rest ≡ x ++ more) (h : 0 < length x) (p : IsChunkByPrefix same_run rest (length x)) (new : Bool) (q : new ≡ not (is_in (record_id (get_or x 0 [])) seen)) where
+    runs_here : map context_id (sheet_runs rest) ≡ record_id (get_or x 0 []) ∷ map context_id (sheet_runs more)
+    unfolding run_context
+    runs_here = rw e (ap (map context_id) (run_front x more h (subst (λ (rs : List (List ℕ)). IsChunkByPrefix same_run rs (length x)) e p)) ∙ go x h)
+      where
+        go : (x : List (List ℕ)) → 0 < length x → (context_id (run_context x) ∷ map context_id (sheet_runs more)) ≡ record_id (get_or x 0 []) ∷ map context_id (sheet_runs more)
+        go [] h = absurd (omega arith)
+        go (r ∷ rs) h = refl
+
+    pub runs_seen : not new ≡ true → false ≡ all
+    runs_seen y = sym (v ∙ rw runs_here (fresh_again seen (record_id (get_or x 0 [])) _ new q y))
+
+    pub runs_new : (r : List ℕ) → not new ≡ false → With seen (record_id (get_or x 0 [])) r → all ≡ fresh r (map context_id (sheet_runs more))
+    runs_new r n m = v ∙ rw runs_here (fresh_more seen r (record_id (get_or x 0 [])) _ new q n m)
+
+pub ruleset runs_laws = (rules, ids_start, runs_over, runs_seen, runs_new)

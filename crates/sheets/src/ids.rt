@@ -5,19 +5,18 @@ ghost use Rattle.sheets.specs.Contexts.{context_id};
 ghost use Rattle.sheets.specs.Sheet.{record_id, sheet_runs};
 
 use crate::record::same_run;
+use id_set::IdSet;
 use numbers::RECORD;
 
 // Whether no ID starts a second run.
 pub(crate) fn runs_differ(rs: &[[u8; RECORD]]) -> bool
     ensures { result ≡ distinct (map context_id (sheet_runs rs.now)) }
 {
-    let mut seen = id_set::empty();
+    let mut seen = IdSet::empty();
     for run in rs.chunk_by(same_run) {
-        if id_set::has(seen, run[0][0]) {
+        if !seen.insert(run[0][0]) {
             return false;
         }
-        let more = id_set::with(seen, run[0][0]);
-        seen = more;
     }
     true
 }
@@ -26,13 +25,11 @@ pub(crate) fn runs_differ(rs: &[[u8; RECORD]]) -> bool
 pub(crate) fn ids_differ(rs: &[[u8; RECORD]]) -> bool
     ensures { result ≡ distinct (map record_id rs.now) }
 {
-    let mut seen = id_set::empty();
+    let mut seen = IdSet::empty();
     for r in rs {
-        if id_set::has(seen, r[0]) {
+        if !seen.insert(r[0]) {
             return false;
         }
-        let more = id_set::with(seen, r[0]);
-        seen = more;
     }
     true
 }

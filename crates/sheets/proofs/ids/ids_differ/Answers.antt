@@ -4,8 +4,8 @@ use Rattle.sheets.proofs.ids.ids_differ.Goals as goal
 pub loop-r-init : goal.loop-r-init
 loop-r-init c = search ids_laws
 
-pub returns-then-has : goal.returns-then-has
-returns-then-has c = search ids_laws
+pub returns-then-not-insert : goal.returns-then-not-insert
+returns-then-not-insert c = search ids_laws
 
 pub loop-r-preserved : goal.loop-r-preserved
 loop-r-preserved c = search ids_laws

@@ -1,21 +1,21 @@
-use Rattle.std.proofs.Common.{rules, ◌≡◌, map, ℕ, ◌+◌, ◌-◌, ◌*◌, ◌<◌, ◌≤◌, length, ◌/◌, ◌%◌, Bool, true, false, nat_eq, nat_lt, List, [], ◌∷◌, ◌++◌, slice_index_or, slice_set, bit_and, bit_or, Fits, w8, w32, w64, Bor, MutBor}
-use Rattle.laws.specs.Lists.{distinct}
-use Rattle.sheets.specs.Contexts.{context_id}
-use Rattle.sheets.specs.Sheet.{record_id, sheet_runs}
+use Rattle.sheets.proofs.RunLaws.{runs_laws, runs_seen, runs_new}
+use Rattle.std.proofs.lemmas.List.Sorted.{answers_always}
+use Rattle.std.proofs.Common.{rules}
+use Rattle.sheets.specs.Record.{same_run}
 use Rattle.sheets.proofs.ids.runs_differ.Goals as goal
 
--- src/ids.rt:15:5
 pub loop-run-init : goal.loop-run-init
-loop-run-init c = ?
+loop-run-init c = search runs_laws
 
--- src/ids.rt:17:13
-pub returns-then-has : goal.returns-then-has
-returns-then-has c = ?
+pub returns-then-not-insert : goal.returns-then-not-insert
+returns-then-not-insert c =
+    let st = c.in-Some.ensures.steps in
+    runs_seen _ _ _ c.loop-run.invariant _ _ st.0 st.1 (st.2 same_run (answers_always _ _ _ (λ f a r g h. search rules))).1 _ c.insert.ensures.added (search rules)
 
--- src/ids.rt:15:5
 pub loop-run-preserved : goal.loop-run-preserved
-loop-run-preserved c = ?
+loop-run-preserved c =
+    let st = c.in-Some.ensures.steps in
+    runs_new _ _ _ c.loop-run.invariant _ _ st.0 st.1 (st.2 same_run (answers_always _ _ _ (λ f a r g h. search rules))).1 _ c.insert.ensures.added _ (search rules) c.insert.ensures.set
 
--- src/ids.rt:11:1
 pub returns : goal.returns
-returns c = ?
+returns c = search runs_laws
