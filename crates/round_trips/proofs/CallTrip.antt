@@ -17,8 +17,8 @@ use Rattle.judging.specs.Pdu.{kind_of}
 use Rattle.reading.specs.Associate.{associate_of, filling, roles_filling, Read}
 use Rattle.reading.specs.Values as values
 use Rattle.reading.specs.Data.{data_of, fragment_of}
-use Rattle.reading.specs.declared.associate.Associate.{Associate}
-use Rattle.reading.specs.declared.data.DataRead.{DataRead}
+use Rattle.reading.specs.Associate.{Associate}
+use Rattle.reading.specs.Data.{DataRead}
 use Rattle.reading.proofs.read_request as read-request
 use Rattle.reading.proofs.read_accept as read-accept
 use Rattle.user_items.specs.Sent.{User}

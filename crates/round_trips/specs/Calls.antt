@@ -10,7 +10,7 @@ use Rattle.pdvs.specs.Data.{Pdv}
 use Rattle.judging.specs.Pdu.{called_of, calling_of}
 use Rattle.judging.proofs.kind_of as kind-of
 use Rattle.reading.specs.Data.{pdv}
-use Rattle.reading.specs.declared.associate.Associate.{Associate}
+use Rattle.reading.specs.Associate.{Associate}
 use Rattle.reading.proofs.read_request as read-request
 use Rattle.reading.proofs.read_accept as read-accept
 use Rattle.reading.proofs.read_reject as read-reject
