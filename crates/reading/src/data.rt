@@ -17,6 +17,7 @@ pub struct Pdv {
 }
 
 // How many bytes of a P-DATA-TF's body the PDV items before a number take; all of them where there are no more than that.
+#[tactic(auto, using(crate::proofs::DataLaws::reach_laws))]
 fn pdv_place(number: usize, s: &[u8]) -> usize
     ensures { result ≡ size (take number (pdvs s.now)) }
 {
@@ -61,6 +62,7 @@ pub fn fragment(pdu: &[u8], number: usize) -> &[u8]
 
 // The PDV item that stands at a place of the PDU, by itself: the header and the other items are not looked at. The next one's place is start + len.
 // Refused by BadContents alone.
+#[tactic(auto, using(crate::proofs::PlaceLaws::place_laws))]
 pub fn pdv_at(pdu: &[u8], at: usize) -> Result<Pdv, Refusal>
     ensures { data_as result ≡ data_at pdu.now at }
 {

@@ -14,6 +14,7 @@ pub struct Part {
 }
 
 // The body of the first item of type t: u stands from place `from` on.
+#[tactic(auto, using(crate::proofs::UserLaws::at_laws))]
 pub(crate) fn part_at(t: u8, from: usize, u: &[u8]) -> Option<Part>
     requires { Fits w64 (from + length u.now) }
     ensures { result ≡ part_at t from (walk u.now) }
@@ -28,6 +29,7 @@ pub(crate) fn part_at(t: u8, from: usize, u: &[u8]) -> Option<Part>
 }
 
 // A count of the 53H, behind so many of its bytes; 1 where there is none.
+#[tactic(auto, using(crate::proofs::UserLaws::count_laws))]
 pub(crate) fn count_in(at: usize, u: &[u8]) -> u16
     ensures { result ≡ count_said at (walk u.now) }
 {

@@ -31,6 +31,7 @@ impl Side {
     }
 
     // The type of its contexts.
+    #[tactic(auto, unfolding(crate::specs::Private::Records::context_type))]
     fn context_type(self) -> u8
         ensures { result ≡ context_type self }
     {
@@ -63,6 +64,7 @@ impl<'a> Valid<'a> {
     }
 
     // What stands behind the fixed fields.
+    #[tactic(auto, using(crate::proofs::ReadLaws::valid_long))]
     fn items(self) -> &'a [u8]
         ensures { PartOf self.entry.pdu 74 (drop 74 self.entry.pdu.now) result }
     {
