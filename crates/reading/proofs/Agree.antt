@@ -16,10 +16,10 @@ use Rattle.reading.proofs.data.fragment as fragment
 use Rattle.reading.proofs.data.pdv_at as pdv-at
 
 pub read_request_agrees : AgreesLent {L = List ℕ × List ℕ} 3 read-request.Kinds.ps read-request.Kinds.r read-request.Reads.Post (λ κs x. (x.1.0.now, x.1.1.0.now))
-read_request_agrees κs args a b x y p q = (associate_once a b p.placed q.placed (agree p.answer.answer q.answer.answer), λ i. (agree p.answer.sheet q.answer.sheet i, agree p.answer.roles q.answer.roles i))
+read_request_agrees κs args a b x y p q = (associate_once a b p.1 q.1 (agree p.0.answer q.0.answer), λ i. (agree p.0.sheet q.0.sheet i, agree p.0.roles q.0.roles i))
 
 pub read_accept_agrees : AgreesLent {L = List ℕ × List ℕ} 3 read-accept.Kinds.ps read-accept.Kinds.r read-accept.Reads.Post (λ κs x. (x.1.0.now, x.1.1.0.now))
-read_accept_agrees κs args a b x y p q = (associate_once a b p.placed q.placed (agree p.answer.answer q.answer.answer), λ i. (agree p.answer.sheet q.answer.sheet i, agree p.answer.roles q.answer.roles i))
+read_accept_agrees κs args a b x y p q = (associate_once a b p.1 q.1 (agree p.0.answer q.0.answer), λ i. (agree p.0.sheet q.0.sheet i, agree p.0.roles q.0.roles i))
 
 pub read_reject_agrees : Agrees 1 read-reject.Kinds.ps read-reject.Kinds.r read-reject.Reads.Post
 read_reject_agrees κs args a b x y p q = reject_once a b (agree p q)

@@ -115,44 +115,44 @@ module _ (number : ℕ) (s : List ℕ) (at k : ℕ) (w : Reaching number s at k)
 pub ruleset reach_laws = (reach_start, reach_done, reach_stop, reach_next)
 
 -- ---- `read_data`
+-- the body of a PDU as the code has it
+abbrev body : List ℕ → List ℕ
+body x = take (length x - 6) (drop 6 x)
+
 module _ (x : List ℕ) (number : ℕ) where
   pub data_other : (kind_of x ≡ 4 → ⊥) → no_data 7 ≡ data_of x number
   unfolding data_of
   data_other h = rw (ne_eqb (kind_of x) 4 h)
 
-  module _ (h : kind_of x ≡ 4) where
-    pub data_six : 6 ≤ length x
-    data_six = whole_six x (kind_whole x 4 h (λ z. omega arith))
+  module _ (h : kind_of x ≡ 4) (at : ℕ) (a : at ≡ size (take number (pdvs (body x)))) where
+    place_in : at ≡ size (take number (pdvs (drop 6 x)))
+    place_in = a ∙ rw (part_tail 6 x)
 
-    -- s is the body
-    module _ (s : List ℕ) (b : s ≡ drop 6 x) (at : ℕ) (a : at ≡ size (take number (pdvs s))) where
-      place_in : at ≡ size (take number (pdvs (drop 6 x)))
-      place_in = a ∙ rw b
+    pub data_past : None ≡ item_end (body x) at → no_data 4 ≡ data_of x number
+    unfolding data_of pdvs_of
+    data_past p =
+        let z : pdv_end (drop 6 x) at ≡ 0 = rw (part_tail 6 x) at (item_none (body x) at p) in
+        let l = run_out (pdvs (drop 6 x)) number (no_pdv (drop 6 x) number at (pdv_end (drop 6 x) at) place_in refl z) in
+        rw (h, le-ltb number (length (pdvs (drop 6 x))) l)
 
-      pub data_past : None ≡ item_end s at → no_data 4 ≡ data_of x number
-      unfolding data_of pdvs_of
-      data_past p =
-          let z : pdv_end (drop 6 x) at ≡ 0 = rw b at (item_none s at p) in
-          let l = run_out (pdvs (drop 6 x)) number (no_pdv (drop 6 x) number at (pdv_end (drop 6 x) at) place_in refl z) in
-          rw (h, le-ltb number (length (pdvs (drop 6 x))) l)
+    pub data_is : (e : ℕ) → Some e ≡ item_end (body x) at
+        → record { refusal = 0; id = get_or (body x) (at + 4) 0; control = get_or (body x) (at + 5) 0; start = 6 + at + 6; len = e - (at + 6) } ≡ data_of x number
+    unfolding data_of pdvs_of start_of
+    data_is e p =
+        let w = item_there (body x) at e p in
+        let q : e ≡ pdv_end (drop 6 x) at = w.0 ∙ rw (part_tail 6 x) in
+        let ne : (e ≡ 0 → ⊥) = w.1 in
+        let i = pdv_more (drop 6 x) at e q ne in
+        let l = length-drop (at + 6) (drop 6 x) in
+        let f : length (take (e - (at + 6)) (drop (at + 6) (drop 6 x))) ≡ e - (at + 6) = length-take-le (e - (at + 6)) (drop (at + 6) (drop 6 x)) (omega arith) in
+        let g = pdv_is (drop 6 x) number at e place_in q ne in
+        let t : ltb number (length (pdvs (drop 6 x))) ≡ true = lt-ltb number (length (pdvs (drop 6 x))) (pdv_there (drop 6 x) number at e place_in q ne) in
+        rw (part_tail 6 x, h, t, g, f, ← place_in)
 
-      pub data_is : (e : ℕ) → Some e ≡ item_end s at
-          → record { refusal = 0; id = get_or s (at + 4) 0; control = get_or s (at + 5) 0; start = 6 + at + 6; len = e - (at + 6) } ≡ data_of x number
-      unfolding data_of pdvs_of start_of
-      data_is e p =
-          let w = item_there s at e p in
-          let q : e ≡ pdv_end (drop 6 x) at = w.0 ∙ rw b in
-          let ne : (e ≡ 0 → ⊥) = w.1 in
-          let i = pdv_more (drop 6 x) at e q ne in
-          let l = length-drop (at + 6) (drop 6 x) in
-          let f : length (take (e - (at + 6)) (drop (at + 6) (drop 6 x))) ≡ e - (at + 6) = length-take-le (e - (at + 6)) (drop (at + 6) (drop 6 x)) (omega arith) in
-          let g = pdv_is (drop 6 x) number at e place_in q ne in
-          let t : ltb number (length (pdvs (drop 6 x))) ≡ true = lt-ltb number (length (pdvs (drop 6 x))) (pdv_there (drop 6 x) number at e place_in q ne) in
-          rw (b, h, t, g, f, ← place_in)
+pub data_six : (x : List ℕ) → kind_of x ≡ 4 → 6 ≤ length x
+data_six x h = whole_six x (kind_whole x 4 h (λ z. omega arith))
 
--- the body as the code has it
-pub body_is : (x : List ℕ) → take (length x - 6) (drop 6 x) ≡ drop 6 x
-body_is x = part_tail 6 x
+pub ruleset data_laws = (data_other, data_past, data_is, data_six)
 
 -- ---- what a reading that is not refused tells
 module _ (x : List ℕ) (n : ℕ) (v : kind_of x ≡ 4) (h : n < length (pdvs_of x)) where
@@ -239,9 +239,13 @@ pub part_none : (x : List ℕ) (n : ℕ) (e : Refusal) → no_data (refusal_numb
 part_none x n e p = fragment_refused x n (λ z. refusal_some e (ap (λ (d : DataRead). d.refusal) p ∙ z))
 
 -- ---- an answer is told by the record that it is
+data_back : DataRead → Told
+data_back r = record { id = r.id; control = r.control; start = r.start; len = r.len }
+
 pub data_once : (a b : Result Told Refusal) → data_as a ≡ data_as b → a ≡ b
+unfolding data_back
 data_once a b e =
-    answer_once a b (refusals a b e) (λ x y p q. let f : data_as (Ok x) ≡ data_as (Ok y) = ap data_as (sym p) ∙ (e ∙ ap data_as q) in cc)
+    answer_once a b (refusals a b e) (λ x y p q. ap data_back (ap data_as (sym p) ∙ (e ∙ ap data_as q)))
   where
     said : (r : Result Told Refusal) → refusal_in r ≡ (data_as r).refusal
     said (Ok r) = refl

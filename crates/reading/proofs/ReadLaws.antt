@@ -1,19 +1,21 @@
 -- Reading an RQ or an AC: what fills the two sheets is that of its contexts and that of its roles, and each way through the code.
 -- Assumes nothing.
-use Prim.Native.Nat.{ℕ, ◌+◌, ◌*◌, ◌/◌, ◌≤◌, ◌<◌}
+use Prim.Native.Nat.{ℕ, ◌+◌, ◌-◌, ◌*◌, ◌/◌, ◌≤◌, ◌<◌}
 use native.Mathlib.Omega.{arith}
 use mathlib.Core.Bool.{Bool, true, false, cond}
 use mathlib.Core.List.{List, [], ◌∷◌, map}
 use mathlib.Core.Path.{◌≡◌, refl, sym, ap, ◌∙◌}
-use lib.ListN.{length, drop, get_or}
+use lib.ListN.{length, drop, get_or, length-drop}
 use lib.Dec.{ltb, eqb}
 use Rattle.std.specs.Prelude.{Option, None, Some, IfSome, Result, Ok, Err, IfOk}
+use borrow.Author.Rules.{rules}
 use borrow.Author.Tests.{lt-ltb, le-ltb, eq-eqb, ne_eqb, eqb-true, eqb-false}
 use Rattle.laws.specs.Lists.{all, empty}
 use Rattle.laws.proofs.Booleans.{left_of, right_of}
 use Rattle.numbers.specs.declared.refusals.Refusal.{Refusal}
 use Rattle.numbers.proofs.NumberLaws.{refusal_once, refusal_some}
 use Rattle.numbers.specs.Results.{ACCEPTED}
+use Rattle.octets.specs.Octets.{be16}
 use Rattle.octets.specs.Private.Put.{Put}
 use Rattle.octets.specs.Put.{front}
 use Rattle.octets.proofs.PutLaws.{put_front}
@@ -31,9 +33,9 @@ use Rattle.sheets.specs.Record.{record_of}
 use Rattle.sheets.proofs.RecordLaws.{record_whole}
 use Rattle.sheets.proofs.Inverse.{transfer_fits}
 use Rattle.user_items.specs.Kinds.{good_50h}
-use Rattle.user_items.specs.Said.{roles_said}
+use Rattle.user_items.specs.Said.{count_said, roles_said}
 use Rattle.user_items.proofs.GoodLaws.{roles_good}
-use Rattle.reading.specs.Associate.{context_of, transfer_in, answer_of, proposed, answered, sub_items_of, sub_items_at, sub_item_at, sub_item_len, sheet_in, roles_sheet_in, Associate, refused, fields_of, associate_of, filling, roles_filling, Read, part_place, part_length, told, associate_as, Placed}
+use Rattle.reading.specs.Associate.{context_of, transfer_in, answer_of, proposed, answered, application_of, application_at, sub_items_of, sub_items_at, sub_item_at, sub_item_len, sheet_in, roles_sheet_in, Associate, refused, fields_of, associate_of, filling, roles_filling, Read, part_place, part_length, told, associate_as, Placed}
 use Rattle.reading.specs.Private.Records.{each, body_records, all_records, number_of, context_type, all_roles, Counted, Filled, part_at, sub_part, fields_with}
 use Rattle.reading.specs.declared.associate.Associate.{Associate as Told}
 use Rattle.reading.specs.declared.user.Part.{Part}
@@ -41,6 +43,7 @@ use Rattle.reading.specs.declared.valid.Counts.{Counts}
 use Rattle.reading.specs.declared.valid.Side.{Side}
 use Rattle.reading.specs.declared.valid.Side.TheVariants.{Request, Accept}
 use Rattle.reading.proofs.RoleLaws.{roles_size_so, roles_sheet}
+use Rattle.reading.proofs.UserLaws.{part_is, said_is}
 
 -- ---- a valid PDU has no name that is too long for its field
 whole_records : (id : ℕ) (a : List ℕ) (xs : List (List ℕ)) → name_ok a ≡ true → all name_ok xs ≡ true → each (record_of id 0 a) xs ≡ context_records id a xs
@@ -76,6 +79,12 @@ answered_sheet (b ∷ bs) g =
     let z : length {A = ℕ} [] ≤ 64 = omega arith in
     rw (record_whole (answer_of b).id (answer_of b).result [] (answer_of b).transfer z (transfer_short b (left_of _ _ g)), answered_sheet bs (right_of (good_21h b) _ g))
 
+-- a part and its two numbers
+same_of : (n : ℕ) (bs : List (List ℕ))
+    → (part_place (cond (empty bs) None (Some (record { at = n; len = length (first bs) }))) ≡ cond (empty bs) 0 n) × (part_length (cond (empty bs) None (Some (record { at = n; len = length (first bs) }))) ≡ length (first bs))
+same_of n [] = (refl, refl)
+same_of n (c ∷ cs) = (refl, refl)
+
 -- what the code puts into the sheet is the sheet of the contexts
 module _ (x : List ℕ) where
   request_sheet : kind_of x ≡ 1 → all_records 0x20 (drop 74 x) ≡ sheet_in 1 x
@@ -89,15 +98,7 @@ module _ (x : List ℕ) where
   -- and so are the other fields
   same_parts : (y : ℕ) → (part_place (sub_part y x) ≡ sub_item_at y x) × (part_length (sub_part y x) ≡ sub_item_len y x)
   unfolding part_at sub_item_at sub_item_len
-  same_parts y = go (bodies y (sub_items_of x))
-    where
-      at : List (List ℕ) → Option Part
-      at bs = cond (empty bs) None (Some (record { at = sub_items_at x + place y (sub_items_of x); len = length (first bs) }))
-
-      go : (bs : List (List ℕ)) → (part_place (at bs) ≡ cond (empty bs) 0 (sub_items_at x + place y (sub_items_of x))) × (part_length (at bs) ≡ length (first bs))
-      unfolding at
-      go [] = (refl, refl)
-      go (c ∷ cs) = (refl, refl)
+  same_parts y = same_of (sub_items_at x + place y (sub_items_of x)) (bodies y (sub_items_of x))
 
   told_fields : (kind n m : ℕ) → maximum_of x ≡ maximum_in (drop 74 x) → length (sheet_in kind x) / 132 ≡ n → length (roles_sheet_in x) / 68 ≡ m → told (fields_with x n m) ≡ fields_of kind x
   unfolding fields_with
@@ -184,6 +185,35 @@ module _ (x : List ℕ) (d : Side) (e : kind_of x ≡ number_of d) where
               roles = w'.out ∙ (put_front t (all_roles u) ∙ ap (front t) roles_is);
             }
 
+-- the place of its application name lies within it
+pub name_within : (x s : List ℕ) (b : s ≡ drop 74 x) (t : ℕ) → t ≡ place 0x10 (walk s) → 74 ≤ length x → 74 + t ≤ length x
+name_within x s b t e h =
+    let l : length s ≡ length x - 74 = ap length b ∙ length-drop 74 x in
+    let w = (stands 0x10 s).within in
+    omega arith
+
+-- ---- `fields`: s stands behind the fixed fields, u is the body of its 50H, and t the place of that
+pub fields_are : (x s u : List ℕ) (t : ℕ) (b : s ≡ drop 74 x) (p : u ≡ first (bodies 0x50 (walk s))) (q : t ≡ place 0x50 (walk s)) {n m v a z i j : ℕ} {name : List ℕ} {c d : Option Part}
+    → v ≡ be16 x 6 → a ≡ place 0x10 (walk s) → name ≡ first (bodies 0x10 (walk s)) → z ≡ maximum_in s
+    → c ≡ part_at 0x52 (74 + t) (walk u) → d ≡ part_at 0x55 (74 + t) (walk u) → i ≡ count_said 0 (walk u) → j ≡ count_said 2 (walk u)
+    → record {
+      version = v;
+      application = record { at = 74 + a; len = length name };
+      maximum = z;
+      records = n;
+      class = c;
+      version_name = d;
+      invoked = i;
+      performed = j;
+      roles = m;
+    }
+    ≡ fields_with x n m
+unfolding fields_with application_at application_of
+fields_are x s u t b p q e f g h k l o r =
+    rw (e, f, g, h, k, l, o, r, part_is x s u t b p q 0x52, part_is x s u t b p q 0x55, said_is x s u t b p q 0, said_is x s u t b p q 2, b)
+
+pub ruleset long_rules = (rules, valid_long)
+
 -- ---- `read`
 module _ (x o t : List ℕ) (d : Side) where
   -- no PDU of the kind
@@ -252,18 +282,35 @@ unfolding fields_with
 fields_placed x n m = record { class = part_placed x 0x52; version_name = part_placed x 0x55 }
 
 -- ---- an answer is told by the record that it is, and by where its parts stand
+abbrev part : ℕ → ℕ → Part
+part m n = record { at = m; len = n }
+
 part_once : (a b : Option Part) → IfSome a (λ p. 0 < p.at) → IfSome b (λ p. 0 < p.at) → part_place a ≡ part_place b → part_length a ≡ part_length b → a ≡ b
 part_once None None p q e f = refl
 part_once None (Some b) p q e f = absurd (omega arith)
 part_once (Some a) None p q e f = absurd (omega arith)
-part_once (Some a) (Some b) p q e f = cc
+part_once (Some a) (Some b) p q e f = ap (λ (m : ℕ). Some (part m a.len)) e ∙ ap (λ (m : ℕ). Some (part b.at m)) f
+
+abbrev back : Associate → Option Part → Option Part → Told
+back f c v =
+    record {
+      version = f.version;
+      application = part f.application_at f.application_len;
+      maximum = f.maximum;
+      records = f.records;
+      class = c;
+      version_name = v;
+      invoked = f.invoked;
+      performed = f.performed;
+      roles = f.roles;
+    }
 
 told_once : (a b : Told) → Placed a → Placed b → told a ≡ told b → a ≡ b
 told_once a b p q e =
     let c : a.class ≡ b.class = part_once a.class b.class p.class q.class (ap (λ (f : Associate). f.class_at) e) (ap (λ (f : Associate). f.class_len) e) in
     let v : a.version_name ≡ b.version_name =
           part_once a.version_name b.version_name p.version_name q.version_name (ap (λ (f : Associate). f.version_name_at) e) (ap (λ (f : Associate). f.version_name_len) e) in
-    cc
+    ap (λ (f : Associate). back f a.class a.version_name) e ∙ (ap (λ (d : Option Part). back (told b) d a.version_name) c ∙ ap (back (told b) b.class) v)
 
 pub associate_once : (a b : Result Told Refusal) → IfOk a Placed → IfOk b Placed → associate_as a ≡ associate_as b → a ≡ b
 associate_once (Ok a) (Ok b) p q e = ap Ok (told_once a b p q e)

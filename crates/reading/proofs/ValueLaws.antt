@@ -56,9 +56,13 @@ module _ (x : List ℕ) where
 pub ruleset value_laws = (reject_ten, reject_other, reject_is, abort_ten, abort_other, abort_is)
 
 -- ---- an answer is told by the record that it is
+reject_back : RejectRead → Reject
+reject_back r = record { result = r.result; source = r.source; reason = r.reason }
+
 pub reject_once : (a b : Result Reject Refusal) → reject_as a ≡ reject_as b → a ≡ b
+unfolding reject_back
 reject_once a b e =
-    answer_once a b (refusals a b e) (λ x y p q. let f : reject_as (Ok x) ≡ reject_as (Ok y) = ap reject_as (sym p) ∙ (e ∙ ap reject_as q) in cc)
+    answer_once a b (refusals a b e) (λ x y p q. ap reject_back (ap reject_as (sym p) ∙ (e ∙ ap reject_as q)))
   where
     said : (r : Result Reject Refusal) → refusal_in r ≡ (reject_as r).refusal
     said (Ok r) = refl
@@ -67,9 +71,13 @@ reject_once a b e =
     refusals : (a b : Result Reject Refusal) → reject_as a ≡ reject_as b → refusal_in a ≡ refusal_in b
     refusals a b e = said a ∙ (ap (λ (r : RejectRead). r.refusal) e ∙ sym (said b))
 
+abort_back : AbortRead → Abort
+abort_back r = record { source = r.source; reason = r.reason }
+
 pub abort_once : (a b : Result Abort Refusal) → abort_as a ≡ abort_as b → a ≡ b
+unfolding abort_back
 abort_once a b e =
-    answer_once a b (refusals a b e) (λ x y p q. let f : abort_as (Ok x) ≡ abort_as (Ok y) = ap abort_as (sym p) ∙ (e ∙ ap abort_as q) in cc)
+    answer_once a b (refusals a b e) (λ x y p q. ap abort_back (ap abort_as (sym p) ∙ (e ∙ ap abort_as q)))
   where
     said : (r : Result Abort Refusal) → refusal_in r ≡ (abort_as r).refusal
     said (Ok r) = refl

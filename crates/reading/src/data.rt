@@ -32,6 +32,7 @@ fn pdv_place(number: usize, s: &[u8]) -> usize
 }
 
 // PDV `number`, from 0. Refused by NoSuchPdu, and by BadContents where there is none of that number.
+#[tactic(auto, using(crate::proofs::DataLaws::data_laws))]
 pub fn read_data(pdu: &[u8], number: usize) -> Result<Pdv, Refusal>
     ensures { data_as result ≡ data_of pdu.now number }
 {

@@ -33,7 +33,7 @@ impl Side {
     // The type of its contexts.
     #[tactic(auto, unfolding(crate::specs::Private::Records::context_type))]
     fn context_type(self) -> u8
-        ensures { result ≡ context_type self }
+        ensures { result ≡ context_type (number_of self) }
     {
         match self {
             Side::Request => 0x20,
