@@ -18,7 +18,7 @@ use Rattle.items.proofs.PlaceLaws.{stands}
 use Rattle.sheets.specs.Record.{record_of}
 use Rattle.sheets.proofs.RecordLaws.{record_length, cut_short}
 use Rattle.reading.specs.Associate.{context_of, transfer_in, answer_of}
-use Rattle.reading.specs.Private.Records.{each, body_records, all_records}
+use Rattle.reading.specs.Private.Records.{each, body_records}
 
 -- ---- one record
 pub record_132 : (id result : ℕ) (a x : List ℕ) → length (record_of id result a x) ≡ 132

@@ -21,7 +21,7 @@ use Rattle.pdvs.proofs.EndLaws.{item_there, item_none}
 use Rattle.pdvs.proofs.DataLaws.{be32_drop}
 use Rattle.judging.specs.Pdu.{data_ok, valid_as, kind_of}
 use Rattle.judging.proofs.KindLaws.{whole_six, kind_whole, kind_valid}
-use Rattle.reading.specs.Data.{pdvs_of, pdv, start_of, DataRead, no_data, data_of, pdv_stands, data_at, place_after}
+use Rattle.reading.specs.Data.{pdvs_of, pdv, start_of, no_data, data_of, pdv_stands, data_at, place_after}
 use Rattle.reading.proofs.DataLaws.{size_more, the_pdv, pdv_is, at_n, end_n, there, length_n, data_in}
 
 -- ---- `pdv_at`

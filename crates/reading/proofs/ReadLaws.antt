@@ -309,7 +309,7 @@ told_once : (a b : Told) → Placed a → Placed b → told a ≡ told b → a �
 told_once a b p q e =
     let c : a.class ≡ b.class = part_once a.class b.class p.class q.class (ap (λ (f : Associate). f.class_at) e) (ap (λ (f : Associate). f.class_len) e) in
     let v : a.version_name ≡ b.version_name =
-          part_once a.version_name b.version_name p.version_name q.version_name (ap (λ (f : Associate). f.version_name_at) e) (ap (λ (f : Associate). f.version_name_len) e) in
+    part_once a.version_name b.version_name p.version_name q.version_name (ap (λ (f : Associate). f.version_name_at) e) (ap (λ (f : Associate). f.version_name_len) e) in
     ap (λ (f : Associate). back f a.class a.version_name) e ∙ (ap (λ (d : Option Part). back (told b) d a.version_name) c ∙ ap (back (told b) b.class) v)
 
 pub associate_once : (a b : Result Told Refusal) → IfOk a Placed → IfOk b Placed → associate_as a ≡ associate_as b → a ≡ b

@@ -10,7 +10,7 @@ use numbers::Refusal;
 
 // What an RQ or AC says. The titles stand at bytes 10 and 26, 16 bytes each; the application name, the implementation class UID and the version name where the
 // parts say; records and roles: how many the sheet and the role sheet start with.
-#[derive(Clone, Copy, Debug, PartialEq, Eq)]
+#[derive(Clone, Copy, Debug, Default, PartialEq, Eq)]
 pub struct Associate {
     pub version: u16,
     pub application: Part,
@@ -24,12 +24,7 @@ pub struct Associate {
 }
 
 // Refused by NoSuchPdu, and by ShortOutput where either sheet has too little room: then nothing is written.
-fn read(
-    side: Side,
-    pdu: &[u8],
-    sheet: &mut [u8],
-    roles: &mut [u8],
-) -> Result<Associate, Refusal>
+fn read(side: Side, pdu: &[u8], sheet: &mut [u8], roles: &mut [u8]) -> Result<Associate, Refusal>
     ensures answer { Read (number_of side) pdu.now sheet.old roles.old (associate_as result) sheet.new roles.new }
     ensures placed { IfOk result Placed }
 {
@@ -43,11 +38,7 @@ fn read(
 }
 
 // Reads an RQ: its contexts fill the sheet, one record per transfer syntax, and its roles the role sheet.
-pub fn read_request(
-    pdu: &[u8],
-    sheet: &mut [u8],
-    roles: &mut [u8],
-) -> Result<Associate, Refusal>
+pub fn read_request(pdu: &[u8], sheet: &mut [u8], roles: &mut [u8]) -> Result<Associate, Refusal>
     ensures answer { Read ASSOCIATE-RQ pdu.now sheet.old roles.old (associate_as result) sheet.new roles.new }
     ensures placed { IfOk result Placed }
 {
@@ -55,11 +46,7 @@ pub fn read_request(
 }
 
 // Reads an AC: its contexts fill the sheet, one record each, and its roles the role sheet.
-pub fn read_accept(
-    pdu: &[u8],
-    sheet: &mut [u8],
-    roles: &mut [u8],
-) -> Result<Associate, Refusal>
+pub fn read_accept(pdu: &[u8], sheet: &mut [u8], roles: &mut [u8]) -> Result<Associate, Refusal>
     ensures answer { Read ASSOCIATE-AC pdu.now sheet.old roles.old (associate_as result) sheet.new roles.new }
     ensures placed { IfOk result Placed }
 {

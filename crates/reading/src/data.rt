@@ -8,7 +8,7 @@ use crate::asked::of_kind;
 use numbers::{Kind, Refusal};
 
 // A PDV: its fragment starts at start, counted from the PDU's first byte, and has len bytes.
-#[derive(Clone, Copy, Debug, PartialEq, Eq)]
+#[derive(Clone, Copy, Debug, Default, PartialEq, Eq)]
 pub struct Pdv {
     pub id: u8,
     pub control: u8,

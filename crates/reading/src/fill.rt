@@ -92,14 +92,7 @@ fn put_context(k: u8, sheet: &mut [u8], n: usize, b: &[u8]) -> usize
         let s = behind_four(b);
         return put_transfers(sheet, n, id, items::first_of(0x30, s), s);
     }
-    put_record(
-        sheet,
-        n,
-        id,
-        octets::byte_at(b, 2),
-        &[],
-        transfer_in(b),
-    )
+    put_record(sheet, n, id, octets::byte_at(b, 2), &[], transfer_in(b))
 }
 
 #[tactic(auto, using(crate::proofs::FillLaws::fill_laws))]

@@ -7,7 +7,7 @@ ghost use Rattle.user_items.specs.Said.{count_said};
 ghost use Rattle.reading.specs.Private.Records.{part_at};
 
 // Where a name stands in the PDU, counted from its first byte, and how many bytes it has.
-#[derive(Clone, Copy, Debug, PartialEq, Eq)]
+#[derive(Clone, Copy, Debug, Default, PartialEq, Eq)]
 pub struct Part {
     pub at: usize,
     pub len: usize,

@@ -5,14 +5,14 @@ ghost use Rattle.reading.specs.Values.{reject_in, reject_as, abort_in, abort_as}
 use crate::asked::of_kind;
 use numbers::{Kind, Refusal};
 
-#[derive(Clone, Copy, Debug, PartialEq, Eq)]
+#[derive(Clone, Copy, Debug, Default, PartialEq, Eq)]
 pub struct Reject {
     pub result: u8,
     pub source: u8,
     pub reason: u8,
 }
 
-#[derive(Clone, Copy, Debug, PartialEq, Eq)]
+#[derive(Clone, Copy, Debug, Default, PartialEq, Eq)]
 pub struct Abort {
     pub source: u8,
     pub reason: u8,

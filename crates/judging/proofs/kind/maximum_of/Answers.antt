@@ -1,3 +1,4 @@
+-- The maximum of an RQ, and of an AC.
 use Rattle.judging.proofs.KindLaws.{max_part}
 use Rattle.judging.specs.Pdu.{maximum_of}
 use Rattle.judging.proofs.kind.maximum_of.Goals as goal

@@ -1,3 +1,4 @@
+-- The part lies within the PDU; where there is none it is the empty part at 0.
 use Rattle.std.proofs.Common.{rules, refl, sym, arith}
 use Rattle.reading.proofs.DataLaws.{part_within, part_is, part_start, part_none}
 use Rattle.reading.proofs.data.fragment.Goals as goal

@@ -1,3 +1,4 @@
+-- The place is behind as many PDVs as were counted.
 use Rattle.reading.proofs.DataLaws.{Reaching}
 use Rattle.reading.proofs.data.pdv_place.Given as goal
 

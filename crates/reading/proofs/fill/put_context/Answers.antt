@@ -1,3 +1,4 @@
+-- The records of a proposed context, or the one of an answer.
 use Rattle.reading.proofs.FillLaws.{proposed_room, proposed_written, answered_room, answered_written}
 use Rattle.reading.proofs.fill.put_context.Goals as goal
 

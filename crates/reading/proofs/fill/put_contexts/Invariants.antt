@@ -1,3 +1,4 @@
+-- What is put so far, and that the rest has room.
 use Rattle.items.specs.Items.{walk}
 use Rattle.items.specs.Steps.{left}
 use Rattle.reading.specs.Private.Records.{body_records}

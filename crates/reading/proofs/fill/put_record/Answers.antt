@@ -1,3 +1,4 @@
+-- The record is put whole.
 use Rattle.reading.proofs.FillLaws.{record_written}
 use Rattle.reading.proofs.fill.put_record.Goals as goal
 

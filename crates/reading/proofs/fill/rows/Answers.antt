@@ -1,3 +1,4 @@
+-- Step by step, as many records as each context gives.
 use Rattle.std.proofs.Common.{arith}
 use Rattle.reading.proofs.StepLaws.{found, found_broken, found_none}
 use Rattle.reading.proofs.FillLaws.{rows_done, rows_broken, rows_skip, rows_upto, rows_more}

@@ -1,3 +1,4 @@
+-- How many records so far; there are no more than bytes.
 use Rattle.std.proofs.Common.{length}
 use Rattle.items.specs.Items.{walk}
 use Rattle.items.specs.Steps.{left, rest_of}

@@ -1,3 +1,4 @@
+-- The record is put whole.
 use Rattle.reading.proofs.RoleLaws.{role_written}
 use Rattle.reading.proofs.role_sheet.put_role.Goals as goal
 

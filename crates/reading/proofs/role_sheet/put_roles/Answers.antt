@@ -1,3 +1,4 @@
+-- Step by step, a record for each 54H.
 use Rattle.reading.proofs.StepLaws.{found, found_broken, found_none}
 use Rattle.reading.proofs.FillLaws.{fill_done, fill_broken, fill_skip, fill_next}
 use Rattle.reading.proofs.RoleLaws.{fill_68}

@@ -1,3 +1,4 @@
+-- The place lies within the PDU.
 use Rattle.reading.proofs.UserLaws.{at_fits}
 use Rattle.reading.proofs.user.part_at.Goals as goal
 

@@ -1,3 +1,4 @@
+-- As many as the sheets of the PDU have.
 use Rattle.reading.proofs.ReadLaws.{counts_are}
 use Rattle.reading.proofs.valid.Valid.counts.Goals as goal
 

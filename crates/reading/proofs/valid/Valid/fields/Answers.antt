@@ -1,4 +1,5 @@
-use Rattle.std.proofs.Common.{◌+◌, ◌≤◌, length, arith}
+-- The places lie within the PDU, and the fields are its own.
+use Rattle.std.proofs.Common.{arith}
 use Rattle.reading.proofs.UserLaws.{user_within}
 use Rattle.reading.proofs.ReadLaws.{valid_long, name_within, fields_are}
 use Rattle.reading.proofs.valid.Valid.fields.Goals as goal

@@ -1,3 +1,4 @@
+-- The sheets have room, and are filled.
 use Rattle.reading.proofs.ReadLaws.{sheet_room, roles_room, both_filled}
 use Rattle.reading.proofs.valid.Valid.fill.Goals as goal
 

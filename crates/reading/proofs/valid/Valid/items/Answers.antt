@@ -1,3 +1,4 @@
+-- A valid RQ or AC has its fixed fields.
 use Rattle.std.proofs.Common.{refl, arith}
 use Rattle.laws.proofs.Places.{part_tail}
 use Rattle.reading.proofs.ReadLaws.{long_rules}
