@@ -1,4 +1,5 @@
 pub mod IdLaws
+pub mod StageLaws
 pub mod OrderLaws
 pub mod Meaning
 pub mod GoodLaws
