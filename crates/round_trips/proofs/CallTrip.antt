@@ -23,8 +23,7 @@ use Rattle.reading.proofs.read_request as read-request
 use Rattle.reading.proofs.read_accept as read-accept
 use Rattle.user_items.specs.Sent.{User}
 use Rattle.writing.specs.Fields.{reject_of, items_of, abort_of}
-use Rattle.writing.specs.Form.{Form, form_refusal, sent_bytes, sent_of, Wrote, rq_form, ac_form, reject_form, data_form, release_rq_form, release_rp_form, abort_form}
-use Rattle.writing.specs.declared.Sent.{Sent}
+use Rattle.writing.specs.Form.{Sent, sent, Form, form_refusal, sent_bytes, sent_of, Wrote, rq_form, ac_form, reject_form, data_form, release_rq_form, release_rp_form, abort_form}
 use Rattle.writing.proofs.FormLaws.{refusal_is}
 use Rattle.round_trips.specs.Trips.{read_of, AssociateTrip, RqTrip, AcTrip, RejectTrip, DataTrip, AbortTrip}
 use Rattle.round_trips.specs.Calls.{WriteRequest, request_given, request_out, WriteAccept, accept_given, accept_out, WriteReject, WriteData, WriteReleaseRequest, WriteReleaseResponse, WriteAbort, ReadAssociate, bytes_written, Judged, StartsWith, SameFields, ReadBack, RequestBack, AcceptBack, RejectBack, AbortBack, DataBack}

@@ -19,7 +19,6 @@ use Rattle.reading.proofs.read_data as read-data
 use Rattle.reading.proofs.fragment as fragment
 use Rattle.user_items.specs.Sent.{User, user_of}
 use Rattle.writing.specs.Fields.{RqFields, AcFields, Reject, Abort, rq_of, ac_of}
-use Rattle.writing.specs.declared.Sent.{Sent}
 use Rattle.writing.proofs.write_reject as write-reject
 use Rattle.writing.proofs.write_data as write-data
 use Rattle.writing.proofs.write_release_request as write-release-request
@@ -28,6 +27,7 @@ use Rattle.writing.proofs.write_abort as write-abort
 use Rattle.writing_associate.proofs.write_request as write-request
 use Rattle.writing_associate.proofs.write_accept as write-accept
 use Rattle.round_trips.specs.Trips.{read_of, pdv_read}
+use Rattle.writing.specs.Form.{Sent, sent}
 
 -- a call that a function's contract permits, as the checker reads the contract (`Post` of the function's `Reads`): what was given, the answer, and what was lent as the call leaves it
 pub record Permitted (n : ℕ) (ps : List (ParamKind n)) (r : ResultKind n) (Post : Out n ps r) : Type 0 where
