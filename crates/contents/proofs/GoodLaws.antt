@@ -3,14 +3,14 @@
 use Prim.Native.Nat.{ℕ, ◌-◌, ◌%◌, ◌≤◌, ◌<◌}
 use mathlib.Core.Bool.{Bool, true, false, ◌&&◌, and-true}
 use mathlib.Core.List.{List, [], ◌∷◌}
-use mathlib.Core.Path.{◌≡◌, refl, sym, ap, ◌∙◌}
+use mathlib.Core.Path.{◌≡◌, refl, sym, ◌∙◌}
 use native.Mathlib.Omega.{arith}
-use lib.ListN.{length, take, drop, get_or, length-drop}
-use lib.Seq.{take_all}
+use lib.ListN.{length, take, drop, get_or}
 use lib.Dec.{leb, eqb}
 use borrow.Author.Tests.{leb-true, le-leb, lt-leb, eqb-true, ne_eqb}
 use Rattle.laws.specs.Lists.{all, among, distinct}
 use Rattle.laws.proofs.Booleans.{left_of, right_of}
+use Rattle.laws.proofs.Places.{part_tail}
 use Rattle.names.specs.Name.{name_ok}
 use Rattle.items.specs.Items.{Walk, walk, filled, bodies, first, good_bodies}
 use Rattle.items.proofs.HoldLaws.{first_good, held_filled, held_good}
@@ -35,9 +35,7 @@ even_20 b h n = rw (le-leb 4 (length b) h, ne_eqb (get_or b 0 0 % 2) 1 n)
 
 pub good_20_by : (b : List ℕ) (r : Bool) → 4 ≤ length b → get_or b 0 0 % 2 ≡ 1 → r ≡ keeps sub_rule 0 (walk (take (length b - 4) (drop 4 b))) → r ≡ good_20h b
 unfolding good_20h
-good_20_by b r h o e =
-    let l = length-drop 4 b in
-    rw (le-leb 4 (length b) h, o) (e ∙ (ap (λ (s : List ℕ). keeps sub_rule 0 (walk s)) (take_all (length b - 4) (drop 4 b) (omega arith)) ∙ sub_is (walk (drop 4 b))))
+good_20_by b r h o e = rw (le-leb 4 (length b) h, o) (e ∙ rw (part_tail 4 b) (sub_is (walk (drop 4 b))))
 
 module _ (b : List ℕ) (g : good_20h b ≡ true) where
   parts_20 : (leb 4 (length b) && (odd (get_or b 0 0) && subs_ok (walk (drop 4 b)))) ≡ true

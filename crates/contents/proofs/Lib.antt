@@ -3,6 +3,5 @@ pub mod StageLaws
 pub mod OrderLaws
 pub mod Meaning
 pub mod GoodLaws
-pub mod ContentLaws
 pub mod Agree
 pub mod Examples

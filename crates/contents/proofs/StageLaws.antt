@@ -1,20 +1,18 @@
 -- The loop over a holder's items, for any order and any test of the bodies: a turn, and its ends. `all` is the answer for the whole.
 -- Assumes nothing.
 use Prim.Native.Nat.{ℕ}
-use mathlib.Core.Bool.{Bool, true, false, not, ◌&&◌, cond, and-false}
+use mathlib.Core.Bool.{Bool, true, false, cond, and-false}
 use mathlib.Core.List.{List}
-use mathlib.Core.Path.{◌≡◌, refl, sym, ap, ◌∙◌}
+use mathlib.Core.Path.{◌≡◌, refl, sym, ◌∙◌}
 use lib.Dec.{eqb}
 use borrow.Author.Rules.{rules}
 use borrow.Author.Tests.{not-true, not-false}
 use Rattle.items.specs.Items.{Walk, done, broken, item}
-use Rattle.items.specs.Private.Rules.{Rule, keeps}
+use Rattle.items.specs.Private.Rules.{keeps}
 use Rattle.contents.specs.declared.order.Order.{Order}
-use Rattle.contents.specs.declared.order.Stage.{Stage}
-use Rattle.contents.specs.declared.order.Stage.TheVariants.{Start, First, Many, Last}
 use Rattle.std.specs.Prelude.{Option, Some, None}
 use Rattle.contents.specs.Private.Order.{wrong, next}
-use Rattle.contents.specs.Private.Stages.{stage_number, stage_after, last_type, end_number, next_in, last_stage, rule_of}
+use Rattle.contents.specs.Private.Stages.{last_type, end_number, next_in, last_stage, rule_of}
 
 -- none leads on from an item out of order
 nine : (p q r : Bool) → cond p wrong (cond q wrong (cond r wrong wrong)) ≡ wrong

@@ -24,7 +24,7 @@ loop-item-preserved g c =
       all = on o (g.H.Holder.test c.args.holder.now) (keeps (rule_of o (g.H.Holder.test c.args.holder.now)) 0 (walk c.args.s.now)) (stage_number c.loop-item.stage) (left c.loop-item.item-iterator) c.loop-item.invariant.all
           c.in-Ok.item.kind c.in-Ok.item.body.now (left c.next.new.self) (search rules) c.good.result (search rules) (search stage_rules)
           (stage_number c.in-Some-next.next) (rw (← e) (search rules));
-      order = e
+      order = e;
     }
 
 pub returns : goal.returns

@@ -11,5 +11,5 @@ invariant-loop-item g l =
     let R = rule_of (g.H.Holder.known l.holder) (g.H.Holder.test l.holder) in
     record {
       all : keeps R 0 (walk l.s) ≡ keeps R (stage_number l.stage) (left l.item-iterator);
-      order : l.order ≡ g.H.Holder.known l.holder
+      order : l.order ≡ g.H.Holder.known l.holder;
     }
