@@ -165,10 +165,10 @@ pub extern "C" fn feo_raw_pdv_at(
     ensures { pdv_fields result id.new control.new start.new length.new ≡ data_at pdu.now at }
 {
     let read = reading::pdv_at(pdu, at);
-    let f = read.unwrap_or_default();
-    *id = f.id;
-    *control = f.control;
-    *start = f.start;
-    *length = f.len;
+    let item = read.unwrap_or_default();
+    *id = item.id;
+    *control = item.control;
+    *start = item.start;
+    *length = item.len;
     refusal_in(read)
 }
