@@ -4,7 +4,7 @@ use Rattle.reading.specs.declared.associate.Associate.{Associate}
 use Rattle.reading.specs.declared.values.RejectRead.{RejectRead}
 use Rattle.reading.specs.declared.values.AbortRead.{AbortRead}
 use Rattle.reading.specs.declared.data.DataRead.{DataRead}
-use Rattle.choosing.specs.declared.Chosen.{Chosen}
+use Rattle.choosing.specs.Call.{Chosen}
 
 abbrev pub associate : ℕ → ℕ → ℕ → ℕ → ℕ → ℕ → ℕ → ℕ → ℕ → ℕ → ℕ → ℕ → ℕ → Associate
 associate refusal version at len maximum records classAt classLen versionAt versionLen invoked performed roles =
