@@ -3,7 +3,6 @@ use crate::buffers::{IN_SHEET, SHEET, digest, front};
 use crate::print::{mark, print, print_with};
 use crate::words::{FIRST, LENT, SECOND, Words, bytes, number};
 use reading::Associate;
-use titles::Place;
 
 // K PDU
 pub(crate) fn kind(rt: &impl Print, line: &[u8], w: &Words) {
@@ -120,11 +119,10 @@ fn print_place(rt: &impl Print, refusal: u8, known: u64, place: u64) {
 
 // T OWN SOUGHT
 pub(crate) fn title_place(rt: &impl Print, line: &[u8], w: &Words) {
-    let found = titles::title_place(bytes(line, w, FIRST), bytes(line, w, SECOND));
-    match found {
-        Place::At(k) => print_place(rt, numbers::NOT_REFUSED, 1, k as u64),
-        Place::None => print_place(rt, numbers::NOT_REFUSED, 0, 0),
-        Place::Refused => print_place(rt, numbers::BAD_CONTENTS, 0, 0),
+    match titles::title_place(bytes(line, w, FIRST), bytes(line, w, SECOND)) {
+        Ok(Some(k)) => print_place(rt, numbers::NOT_REFUSED, 1, k as u64),
+        Ok(None) => print_place(rt, numbers::NOT_REFUSED, 0, 0),
+        Err(refusal) => print_place(rt, refusal.number(), 0, 0),
     }
 }
 
