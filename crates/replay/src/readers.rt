@@ -146,10 +146,14 @@ pub(crate) fn title_place(rt: &impl Print, line: &[u8], w: &Words) {
 pub(crate) fn choose(rt: &impl Print, line: &[u8], w: &Words) {
     let n = number(w, LENT) as usize;
     let mut sheet = [IN_SHEET; SHEET];
-    let c = choosing::choose(
+    let chosen = choosing::choose(
         bytes(line, w, FIRST),
         bytes(line, w, SECOND),
         front(&mut sheet, n),
     );
-    print(rt, &[c.refusal as u64, c.records as u64, digest(&sheet, n)]);
+    let (refusal, records) = match chosen {
+        Ok(records) => (numbers::NOT_REFUSED, records),
+        Err(e) => (e.number(), 0),
+    };
+    print(rt, &[refusal as u64, records as u64, digest(&sheet, n)]);
 }
