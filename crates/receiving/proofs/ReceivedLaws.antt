@@ -7,6 +7,9 @@ use mathlib.Core.List.{List}
 use native.Mathlib.Omega.{arith}
 use lib.ListN.{length, get_or}
 use borrow.Author.Rules.{rules}
+use Rattle.std.specs.Prelude.{Option}
+use Rattle.numbers.specs.declared.kinds.Kind.{Kind}
+use Rattle.numbers.specs.Kinds.{kind_number}
 use Rattle.numbers.specs.Refusals.{NOT-REFUSED}
 use Rattle.numbers.specs.Lengths.{TEN}
 use Rattle.octets.specs.Put.{Placed}
@@ -60,10 +63,10 @@ module _ (a : Assoc) (action : ℕ) (o : List ℕ) (u n : ℕ) (r : Answer) (o' 
   unfolding on_event
   long_done ea D = rw ea at D
 
-  pub pdu_done : (p : List ℕ) (kind event first abort : ℕ) (b : Brings) → kind ≡ kind_of p → event ≡ event_of_kind kind → action ≡ cell_of event a.state
+  pub pdu_done : (p : List ℕ) (k : Option Kind) (kind event first abort : ℕ) (b : Brings) → kind_number k ≡ kind_of p → kind ≡ kind_number k → event ≡ event_of_kind kind → action ≡ cell_of event a.state
       → b ≡ brings action (standing a) (pdu p) → first ≡ get_or p 0 0 → abort ≡ abort_for event first
       → Done (doing action (standing a) b (ten_of (ten_by action b.accepts abort))) o u n r o' → Done (upper.on_pdu (standing a) p) o u n r o'
   unfolding on_event event_of
-  pdu_done p kind event first abort b ek ev ea eb ef et D = rw (et, ef, eb, ea, ev, ek) at D
+  pdu_done p k kind event first abort b ek en ev ea eb ef et D = rw (et, ef, eb, ea, ev, en, ek) at D
 
 pub ruleset received_laws = (rules, told_shown, told_hidden, long_done, pdu_done)

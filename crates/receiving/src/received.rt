@@ -9,6 +9,7 @@ ghost use Rattle.association.specs.Machine.{doing, upper};
 ghost use Rattle.receiving.specs.Private.Reactions.{Done};
 
 use association::{Answer, Assoc, Brings, Told};
+use numbers::Kind;
 
 // An action, with what its event brings, and the A-ABORT that AA-7 and AA-8 send.
 struct Doing {
@@ -87,7 +88,7 @@ pub(crate) fn do_pdu(a: Assoc, pdu: &[u8], used: usize, out: &mut [u8]) -> Answe
     requires { TEN ≤ length out.old }
     ensures { Done (upper.on_pdu (standing a) pdu.now) out.old used (length pdu.now) result out.new }
 {
-    let event = association::event_of_kind(judging::kind_of(pdu));
+    let event = association::event_of_kind(Kind::number(judging::kind_of(pdu)));
     let action = table::cell(event, a.state);
     let x = Doing {
         action,
