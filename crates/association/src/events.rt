@@ -1,4 +1,5 @@
-// The events by their numbers; the A-ABORT that answers a received one, the cell of a local one.
+// The events by their numbers; the A-ABORT that answers a received one, the cell of a local one. Kind, event and state stay numbers, since these functions take any, and their clauses say
+// what they answer for each.
 ghost use Rattle.std.specs.Prelude.{◌≡◌};
 ghost use Rattle.association.specs.Events.{event_of_kind};
 ghost use Rattle.association.specs.Performing.{abort_for};

@@ -22,7 +22,7 @@ pub struct Assoc {
 }
 
 // What a call tells beside the record: 0 or a refusal; the action, 0 for none; the bytes used of the piece and sent; the length of the PDU now in the gather buffer,
-// where it is shown.
+// where it is shown. The refusal stays a number, since the clause `Stored` of assoc_bytes' `hand_out` speaks of any.
 #[derive(Clone, Copy, Debug, PartialEq, Eq)]
 pub struct Told {
     pub refusal: u8,

@@ -1,4 +1,4 @@
-// What an action makes of the record, and the PDU that it sends by itself.
+// What an action makes of the record, and the PDU that it sends by itself. Actions stay numbers, since `after` and `ten_by` take any.
 ghost use Rattle.std.specs.Prelude.{◌≡◌};
 ghost use Rattle.association.specs.Record.{standing};
 ghost use Rattle.association.specs.Performing.{requestor_after, entering as enteringOf, leaving, after as after_of, ten_by};
