@@ -1,6 +1,6 @@
 -- Laws of runs: `chunk_by` gives as many as there are contexts.
 -- Assumes nothing.
-use Rattle.std.proofs.Common.{ℕ, suc, List, [], ◌∷◌, ◌++◌, ◌≡◌, ◌<◌, Bor, Bool, None, Some, length, refl, sym, ap, ◌∙◌, arith}
+use Rattle.std.proofs.Common.{ℕ, suc, List, [], ◌∷◌, ◌++◌, ◌≡◌, ◌<◌, Bor, Bool, None, length, refl, sym, ap, ◌∙◌, arith}
 use mathlib.Core.Path.{subst}
 use denote.Param.Members.{Mut}
 use Rattle.std.specs.Fn.{ComputesOnPairs}
