@@ -2,8 +2,8 @@
 use crate::buffers::{IN_SHEET, SHEET, digest, front};
 use crate::print::{mark, print, print_with};
 use crate::words::{FIRST, LENT, SECOND, Words, bytes, number};
+use numbers::{Kind, Refusal};
 use reading::Associate;
-use titles::Place;
 
 // K PDU
 pub(crate) fn kind(rt: &impl Print, line: &[u8], w: &Words) {
@@ -11,14 +11,22 @@ pub(crate) fn kind(rt: &impl Print, line: &[u8], w: &Words) {
     print(
         rt,
         &[
-            judging::kind_of(pdu) as u64,
+            Kind::number(judging::kind_of(pdu)) as u64,
             mark(judging::acceptable(pdu)),
             judging::maximum_of(pdu) as u64,
         ],
     );
 }
 
-fn fields(call: u8, pdu: &[u8], sheet: &mut [u8], roles: &mut [u8]) -> Associate {
+// A refusal's number, 0 for none.
+fn refused<T: Copy>(answer: Result<T, Refusal>) -> u64 {
+    match answer {
+        Ok(_) => numbers::NOT_REFUSED as u64,
+        Err(refusal) => refusal.number() as u64,
+    }
+}
+
+fn fields(call: u8, pdu: &[u8], sheet: &mut [u8], roles: &mut [u8]) -> Result<Associate, Refusal> {
     if call == b'Q' {
         reading::read_request(pdu, sheet, roles)
     } else {
@@ -36,25 +44,28 @@ pub(crate) fn associate(rt: &impl Print, call: u8, line: &[u8], w: &Words) {
     let m = number(w, LENT) as usize;
     let mut sheet = [IN_SHEET; SHEET];
     let mut roles = [IN_SHEET; SHEET];
-    let f = fields(
+    let read = fields(
         call,
         bytes(line, w, FIRST),
         front(&mut sheet, n),
         front(&mut roles, m),
     );
+    let f = read.unwrap_or_default();
+    let class = f.class.unwrap_or_default();
+    let version_name = f.version_name.unwrap_or_default();
     print(
         rt,
         &[
-            f.refusal as u64,
+            refused(read),
             f.version as u64,
-            f.application_at as u64,
-            f.application_len as u64,
+            f.application.at as u64,
+            f.application.len as u64,
             f.maximum as u64,
             f.records as u64,
-            f.class_at as u64,
-            f.class_len as u64,
-            f.version_name_at as u64,
-            f.version_name_len as u64,
+            class.at as u64,
+            class.len as u64,
+            version_name.at as u64,
+            version_name.len as u64,
             wide(f.invoked),
             wide(f.performed),
             f.roles as u64,
@@ -66,11 +77,12 @@ pub(crate) fn associate(rt: &impl Print, call: u8, line: &[u8], w: &Words) {
 
 // J PDU
 pub(crate) fn reject(rt: &impl Print, line: &[u8], w: &Words) {
-    let f = reading::read_reject(bytes(line, w, FIRST));
+    let read = reading::read_reject(bytes(line, w, FIRST));
+    let f = read.unwrap_or_default();
     print(
         rt,
         &[
-            f.refusal as u64,
+            refused(read),
             f.result as u64,
             f.source as u64,
             f.reason as u64,
@@ -80,17 +92,19 @@ pub(crate) fn reject(rt: &impl Print, line: &[u8], w: &Words) {
 
 // B PDU
 pub(crate) fn abort(rt: &impl Print, line: &[u8], w: &Words) {
-    let f = reading::read_abort(bytes(line, w, FIRST));
-    print(rt, &[f.refusal as u64, f.source as u64, f.reason as u64]);
+    let read = reading::read_abort(bytes(line, w, FIRST));
+    let f = read.unwrap_or_default();
+    print(rt, &[refused(read), f.source as u64, f.reason as u64]);
 }
 
 // D PDU NUMBER
 pub(crate) fn data(rt: &impl Print, line: &[u8], w: &Words) {
     let pdu = bytes(line, w, FIRST);
     let number = number(w, SECOND) as usize;
-    let f = reading::read_data(pdu, number);
+    let read = reading::read_data(pdu, number);
+    let f = read.unwrap_or_default();
     let numbers = [
-        f.refusal as u64,
+        refused(read),
         f.id as u64,
         f.control as u64,
         f.start as u64,
@@ -101,11 +115,12 @@ pub(crate) fn data(rt: &impl Print, line: &[u8], w: &Words) {
 
 // P PDU PLACE
 pub(crate) fn pdv_at(rt: &impl Print, line: &[u8], w: &Words) {
-    let f = reading::pdv_at(bytes(line, w, FIRST), number(w, SECOND) as usize);
+    let read = reading::pdv_at(bytes(line, w, FIRST), number(w, SECOND) as usize);
+    let f = read.unwrap_or_default();
     print(
         rt,
         &[
-            f.refusal as u64,
+            refused(read),
             f.id as u64,
             f.control as u64,
             f.start as u64,
@@ -120,11 +135,10 @@ fn print_place(rt: &impl Print, refusal: u8, known: u64, place: u64) {
 
 // T OWN SOUGHT
 pub(crate) fn title_place(rt: &impl Print, line: &[u8], w: &Words) {
-    let found = titles::title_place(bytes(line, w, FIRST), bytes(line, w, SECOND));
-    match found {
-        Place::At(k) => print_place(rt, numbers::NOT_REFUSED, 1, k as u64),
-        Place::None => print_place(rt, numbers::NOT_REFUSED, 0, 0),
-        Place::Refused => print_place(rt, numbers::BAD_CONTENTS, 0, 0),
+    match titles::title_place(bytes(line, w, FIRST), bytes(line, w, SECOND)) {
+        Ok(Some(k)) => print_place(rt, numbers::NOT_REFUSED, 1, k as u64),
+        Ok(None) => print_place(rt, numbers::NOT_REFUSED, 0, 0),
+        Err(refusal) => print_place(rt, refusal.number(), 0, 0),
     }
 }
 
@@ -132,10 +146,14 @@ pub(crate) fn title_place(rt: &impl Print, line: &[u8], w: &Words) {
 pub(crate) fn choose(rt: &impl Print, line: &[u8], w: &Words) {
     let n = number(w, LENT) as usize;
     let mut sheet = [IN_SHEET; SHEET];
-    let c = choosing::choose(
+    let chosen = choosing::choose(
         bytes(line, w, FIRST),
         bytes(line, w, SECOND),
         front(&mut sheet, n),
     );
-    print(rt, &[c.refusal as u64, c.records as u64, digest(&sheet, n)]);
+    let (refusal, records) = match chosen {
+        Ok(records) => (numbers::NOT_REFUSED, records),
+        Err(e) => (e.number(), 0),
+    };
+    print(rt, &[refusal as u64, records as u64, digest(&sheet, n)]);
 }

@@ -30,7 +30,7 @@ use Rattle.sheets.specs.Contexts.{Context, Answered, context_id, context_ok, con
 use Rattle.sheets.specs.Sheet.{record_id, records_of, goes_on, others, start, sheet_runs, contexts_in, answers_in, proposal_ok, site_ok}
 use Rattle.sheets.proofs.Inverse.{proposal_contexts}
 use Rattle.reading.specs.Associate.{proposed, application_of, sheet_in, fields_of, associate_refusal, associate_of, filling, Read}
-use Rattle.reading.specs.declared.associate.Associate.{Associate}
+use Rattle.reading.specs.Associate.{Associate}
 use Rattle.reading.proofs.Meaning.{refusal_is, request_sheet_good, request_sheet_back, request_records, application_stands}
 use Rattle.writing.specs.Fields.{AcFields, ac_good}
 use Rattle.writing.specs.Cases.{added}
@@ -44,8 +44,7 @@ use Rattle.round_trips.proofs.UserAgain.{part_bytes}
 use Rattle.round_trips.proofs.Again.{rq_name, rq_room, ac_allowed}
 use Rattle.round_trips.proofs.SentTrip.{sent_ac}
 use Rattle.choosing.specs.Choice.{Liked, site_in, chosen, chosen_for}
-use Rattle.choosing.specs.Call.{choose_refusal}
-use Rattle.choosing.specs.declared.Chosen.{Chosen}
+use Rattle.choosing.specs.Call.{Chosen, choose_refusal}
 use Rattle.well_chosen.specs.Answering.{records_in, Bytes, Chain, response_of, Answering}
 use Rattle.well_chosen.proofs.Meaning.{well_chosen, was_proposed_so}
 use Rattle.well_chosen.proofs.Written as written
