@@ -21,7 +21,6 @@ use Rattle.titles.specs.Title.{title_ok}
 use Rattle.names.proofs.NameLaws.{name_short}
 use Rattle.titles.proofs.TitleLaws.{title_sixteen}
 use Rattle.sheets.specs.Sheet.{proposal_ok, answers_ok}
-use Rattle.sheets.proofs.Inverse.{proposal_whole, answers_whole}
 use Rattle.roles.specs.Sheet.{role_sheet_ok}
 use Rattle.user_items.specs.Kinds.{version_ok}
 use Rattle.user_items.specs.Sent.{User, count_ok, user_good}

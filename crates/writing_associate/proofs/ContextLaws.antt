@@ -2,9 +2,9 @@
 -- Assumes nothing.
 use Prim.Native.Nat.{ℕ, ◌+◌, ◌/◌, ◌%◌, ◌≤◌, ◌<◌}
 use native.Mathlib.Omega.{arith}
-use mathlib.Core.Bool.{Bool, true, false, cond}
-use mathlib.Core.List.{List, [], ◌∷◌, ◌++◌, map, append-nil}
-use mathlib.Core.Path.{◌≡◌, refl, sym, ap, subst, ◌∙◌}
+use mathlib.Core.Bool.{Bool, true, false}
+use mathlib.Core.List.{List, [], ◌∷◌, ◌++◌, map}
+use mathlib.Core.Path.{◌≡◌, refl, ap, subst, ◌∙◌}
 use lib.ListN.{length, drop, get_or, length-append}
 use lib.Dec.{leb}
 use borrow.Author.Rules.{rules}
@@ -19,7 +19,7 @@ use Rattle.octets.proofs.PutLaws.{placed_put}
 use Rattle.items.specs.Wire.{item_bytes, items_bytes}
 use Rattle.items.proofs.WireLaws.{item_length}
 use Rattle.sheets.specs.Sheet.{abstract_of, transfer_of, sheet_runs, answered_of}
-use Rattle.sheets.specs.Record.{abstract_at, transfer_at, same_run}
+use Rattle.sheets.specs.Record.{same_run}
 use Rattle.sheets.specs.Private.OneRecord.{run_context}
 use Rattle.sheets.proofs.RecordLaws.{abstract_first, transfer_first, abstract_short, transfer_short}
 use Rattle.sheets.proofs.RunLaws.{run_front}

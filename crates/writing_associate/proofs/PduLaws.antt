@@ -1,28 +1,27 @@
 -- Laws of an A-ASSOCIATE-RQ and -AC as they are written: the parts, the length, and what the calls answer.
 -- Assumes nothing.
-use Prim.Native.Nat.{ℕ, ◌+◌, ◌/◌, ◌%◌, ◌≤◌, ◌<◌}
+use Prim.Native.Nat.{ℕ, ◌+◌, ◌/◌, ◌≤◌, ◌<◌}
 use native.Mathlib.Omega.{arith}
 use mathlib.Core.Bool.{Bool, true, false}
-use mathlib.Core.List.{List, [], ◌∷◌, ◌++◌, map}
+use mathlib.Core.List.{List, [], ◌∷◌, ◌++◌}
 use mathlib.Core.Path.{◌≡◌, refl, ap, ◌∙◌}
 use lib.ListN.{length, get_or, length-append}
 use lib.Dec.{leb}
 use borrow.Author.Rules.{rules}
-use borrow.Author.Tests.{lt-leb, leb-true, leb-false}
+use borrow.Author.Tests.{lt-leb, leb-false}
 use Rattle.std.specs.Simd.{first_chunks}
 use Rattle.laws.proofs.Library.{chunk_records}
 use Rattle.numbers.specs.Refusals.{NOT-REFUSED, SHORT-OUTPUT, LONG-PDU}
-use Rattle.numbers.specs.Lengths.{HEADER, LONGEST, RECORD}
+use Rattle.numbers.specs.Lengths.{HEADER, LONGEST}
 use Rattle.octets.specs.Octets.{four}
 use Rattle.octets.specs.Put.{Placed}
 use Rattle.octets.specs.Private.Put.{Put}
 use Rattle.octets.proofs.PutLaws.{next_room, next_put, placed_next}
-use Rattle.items.specs.Wire.{item_bytes, items_bytes}
+use Rattle.items.specs.Wire.{item_bytes}
 use Rattle.items.proofs.WireLaws.{item_length}
-use Rattle.sheets.specs.Contexts.{Context}
 use Rattle.sheets.specs.Sheet.{records_of, contexts_in, answers_in}
 use Rattle.user_items.specs.Sent.{user_bytes}
-use Rattle.writing.specs.Wire.{pdu_bytes, associate_items, associate_bytes, context_body}
+use Rattle.writing.specs.Wire.{pdu_bytes, associate_items, associate_bytes}
 use Rattle.writing.specs.Form.{Wrote, good_form}
 use Rattle.writing_associate.specs.Private.ContextItems.{run_items, answer_items, context_bytes, capped}
 use Rattle.writing_associate.specs.Private.Pdu.{Associate, contexts_of, pdu_kind, pdu_of, base, item_part, fixed_part, Fit, Known, Measured}

@@ -1,14 +1,13 @@
 -- Laws of a role sheet's 54H items, measured and written a record at a time.
 -- Assumes nothing.
-use Prim.Native.Nat.{ℕ, ◌+◌, ◌-◌, ◌/◌, ◌%◌, ◌≤◌, ◌<◌}
+use Prim.Native.Nat.{ℕ, ◌+◌, ◌/◌, ◌%◌, ◌≤◌, ◌<◌}
 use native.Mathlib.Omega.{arith}
 use mathlib.Core.List.{List, [], ◌∷◌, ◌++◌}
 use mathlib.Core.Path.{◌≡◌, refl, ap, ◌∙◌}
 use lib.ListN.{length, drop, get_or, length-append}
 use Rattle.std.proofs.lemmas.List.{drop_all}
 use borrow.Author.Rules.{rules}
-use borrow.Author.Tests.{le-leb, lt-leb}
-use Rattle.numbers.specs.Lengths.{LONGEST, ROLE}
+use Rattle.numbers.specs.Lengths.{LONGEST}
 use Rattle.octets.specs.Octets.{two}
 use Rattle.octets.specs.Put.{Placed}
 use Rattle.octets.specs.Private.Put.{Put}

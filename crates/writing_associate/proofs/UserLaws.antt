@@ -8,7 +8,6 @@ use mathlib.Core.Path.{◌≡◌, refl, sym, ap, ◌∙◌}
 use lib.ListN.{length, get_or, length-append}
 use lib.Dec.{eqb}
 use borrow.Author.Rules.{rules}
-use borrow.Author.Tests.{eq-eqb, ne_eqb}
 use Rattle.std.specs.Simd.{first_chunks}
 use Rattle.laws.specs.Lists.{empty}
 use Rattle.laws.proofs.Library.{chunk_records}

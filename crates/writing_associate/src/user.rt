@@ -21,7 +21,11 @@ fn one_and_one(invoked: u16, performed: u16) -> bool
 fn counts_size(invoked: u16, performed: u16) -> usize
     ensures { (result ≡ length (count_bytes invoked performed)) × (result ≤ 8) }
 {
-    if one_and_one(invoked, performed) { 0 } else { 8 }
+    if one_and_one(invoked, performed) {
+        0
+    } else {
+        8
+    }
 }
 
 fn version_size(version_name: &[u8]) -> usize

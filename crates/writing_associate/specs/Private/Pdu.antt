@@ -1,7 +1,7 @@
 -- For the private functions: an RQ or AC as it is written: its fixed part, and its items. `answer`: it is an AC.
-use Rattle.std.specs.Prelude.{ℕ, ◌+◌, ◌%◌, ◌≤◌, ◌≡◌, Bool, false, cond, List, ◌∷◌, ◌++◌, map, length}
+use Rattle.std.specs.Prelude.{ℕ, ◌+◌, ◌≤◌, ◌≡◌, Bool, cond, List, ◌∷◌, ◌++◌, map, length}
 use Rattle.numbers.specs.Kinds.{ASSOCIATE-RQ, ASSOCIATE-AC}
-use Rattle.numbers.specs.Lengths.{HEADER, LONGEST, RECORD}
+use Rattle.numbers.specs.Lengths.{HEADER, LONGEST}
 use Rattle.octets.specs.Octets.{four}
 use Rattle.items.specs.Wire.{item_bytes}
 use Rattle.sheets.specs.Sheet.{records_of, contexts_in, answers_in}
