@@ -7,8 +7,7 @@ pub(crate) fn put_item(out: &mut [u8], at: usize, kind: u8, body: &[u8]) -> usiz
     requires { (at + 4 + length body.now ≤ length out.old) × (length body.now < 65536) }
     ensures { Put out.old at (item_bytes kind body.now) result out.new }
 {
-    let n = body.len();
-    let head = [kind, 0, (n / 256) as u8, (n % 256) as u8];
-    let next = octets::put(out, at, &head);
+    let l = octets::two_of(body.len() as u16);
+    let next = octets::put(out, at, &[kind, 0, l[0], l[1]]);
     octets::put(out, next, body)
 }
