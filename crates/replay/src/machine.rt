@@ -1,11 +1,10 @@
 // The machine calls, each on a record, a gather buffer and an output.
 use crate::print::{mark, print};
 use crate::record::lay;
-use crate::words::{
-    CLASS, CONTEXTS, FIRST, INVOKED, PERFORMED, ROLES, SECOND, THIRD, VERSION_NAME, Words, byte,
-    bytes, short,
-};
+use crate::words::{CONTEXTS, FIRST, SECOND, THIRD, Words, byte, bytes};
+use crate::writers::user;
 use association::{Answer, Assoc};
+use writing_associate::{Accept, Request};
 
 // The local events.
 fn local(call: u8, a: Assoc, line: &[u8], w: &Words, gather: &[u8], out: &mut [u8]) -> Answer {

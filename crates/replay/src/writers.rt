@@ -12,7 +12,7 @@ use writing_associate::{Accept, Request};
 // The peer's maximum length for `4`: none.
 const NO_LIMIT: u32 = 0;
 
-fn user<'a>(line: &'a [u8], w: &Words) -> User<'a> {
+pub(crate) fn user<'a>(line: &'a [u8], w: &Words) -> User<'a> {
     User {
         class_uid: bytes(line, w, CLASS),
         version_name: bytes(line, w, VERSION_NAME),
