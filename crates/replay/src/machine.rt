@@ -1,89 +1,100 @@
 // The machine calls, each on a record, a gather buffer and an output.
-use crate::print::{mark, print};
-use crate::record::lay;
-use crate::words::{
-    CLASS, CONTEXTS, FIRST, INVOKED, PERFORMED, ROLES, SECOND, THIRD, VERSION_NAME, Words, byte,
-    bytes, short,
-};
-use association::{Answer, Assoc};
+use crate::associate::{accept_in, request_in};
+use crate::host::{Host, Record};
+use crate::words::Words;
 
-// The local events.
-fn local(call: u8, a: Assoc, line: &[u8], w: &Words, gather: &[u8], out: &mut [u8]) -> Answer {
-    let first = bytes(line, w, FIRST);
-    let second = bytes(line, w, SECOND);
-    let third = bytes(line, w, THIRD);
-    let one = byte(w, FIRST);
-    match call {
-        b'c' => requests::confirm(
-            a,
-            first,
-            second,
-            third,
-            bytes(line, w, CLASS),
-            bytes(line, w, VERSION_NAME),
-            short(w, INVOKED),
-            short(w, PERFORMED),
-            bytes(line, w, ROLES),
-            bytes(line, w, CONTEXTS),
-            gather,
-            out,
-        ),
-        b'a' => requests::accept(
-            a,
-            second,
-            third,
-            bytes(line, w, CLASS),
-            bytes(line, w, VERSION_NAME),
-            short(w, INVOKED),
-            short(w, PERFORMED),
-            bytes(line, w, ROLES),
-            bytes(line, w, CONTEXTS),
-            gather,
-            out,
-        ),
-        b'j' => requests::reject(a, one, byte(w, SECOND), byte(w, THIRD), gather, out),
-        b'd' => requests::send(a, first, gather, out),
-        _ => requests::event(a, one, gather, out),
-    }
+// r RECORD PIECE
+pub(crate) fn receive(rt: &impl Print, mut words: Words, host: &mut Host) -> Option<()> {
+    let record = Record::read(&mut words)?;
+    let piece = words.bytes()?;
+    words.end()?;
+    host.start(record);
+    let answer = receiving::receive(host.assoc, host.gather.lend(), piece, host.out.lend());
+    host.told(rt, answer);
+    Some(())
 }
 
-// Any machine call, on the buffers as its RECORD lends them.
-pub(crate) fn machine_call(
-    call: u8,
-    a: Assoc,
-    line: &[u8],
-    w: &Words,
-    gather: &mut [u8],
-    out: &mut [u8],
-) -> Answer {
-    lay(line, w, gather, out);
-    if call == b'r' {
-        receiving::receive(a, gather, bytes(line, w, FIRST), out)
-    } else {
-        local(call, a, line, w, gather, out)
-    }
+// e RECORD NUMBER
+pub(crate) fn event(rt: &impl Print, mut words: Words, host: &mut Host) -> Option<()> {
+    let record = Record::read(&mut words)?;
+    let number = words.byte()?;
+    words.end()?;
+    host.start(record);
+    let answer = requests::event(host.assoc, number, host.gather.lend(), host.out.lend());
+    host.told(rt, answer);
+    Some(())
 }
 
-// Prints the answer, the record after it, and the digests of both buffers.
-pub(crate) fn tell(rt: &impl Print, r: Answer, gather: u64, out: u64) {
-    let t = r.told;
-    let a = r.assoc;
-    print(
-        rt,
-        &[
-            t.refusal as u64,
-            t.action as u64,
-            t.used as u64,
-            t.sent as u64,
-            t.shown as u64,
-            a.state as u64,
-            a.gathered as u64,
-            mark(a.deaf),
-            mark(a.artim),
-            mark(a.requestor),
-            a.peer_max as u64,
-            gather,
-            out,
-        ],
+// c RECORD CALLED CALLING APPLICATION USER SHEET
+pub(crate) fn confirm(rt: &impl Print, mut words: Words, host: &mut Host) -> Option<()> {
+    let record = Record::read(&mut words)?;
+    let request = request_in(&mut words)?;
+    words.end()?;
+    host.start(record);
+    let user = request.user;
+    let answer = requests::confirm(
+        host.assoc,
+        request.called,
+        request.calling,
+        request.application,
+        user.class_uid,
+        user.version_name,
+        user.invoked,
+        user.performed,
+        user.roles,
+        request.sheet,
+        host.gather.lend(),
+        host.out.lend(),
     );
+    host.told(rt, answer);
+    Some(())
+}
+
+// a RECORD ECHOED APPLICATION USER SHEET
+pub(crate) fn accept(rt: &impl Print, mut words: Words, host: &mut Host) -> Option<()> {
+    let record = Record::read(&mut words)?;
+    let accept = accept_in(&mut words)?;
+    words.end()?;
+    host.start(record);
+    let user = accept.user;
+    let answer = requests::accept(
+        host.assoc,
+        accept.echoed,
+        accept.application,
+        user.class_uid,
+        user.version_name,
+        user.invoked,
+        user.performed,
+        user.roles,
+        accept.sheet,
+        host.gather.lend(),
+        host.out.lend(),
+    );
+    host.told(rt, answer);
+    Some(())
+}
+
+// j RECORD RESULT SOURCE REASON
+pub(crate) fn reject(rt: &impl Print, mut words: Words, host: &mut Host) -> Option<()> {
+    let record = Record::read(&mut words)?;
+    let res = words.byte()?;
+    let source = words.byte()?;
+    let reason = words.byte()?;
+    words.end()?;
+    host.start(record);
+    let gather = host.gather.lend();
+    let answer = requests::reject(host.assoc, res, source, reason, gather, host.out.lend());
+    host.told(rt, answer);
+    Some(())
+}
+
+// d RECORD ITEMS
+pub(crate) fn send(rt: &impl Print, mut words: Words, host: &mut Host) -> Option<()> {
+    let record = Record::read(&mut words)?;
+    let items = words.bytes()?;
+    words.end()?;
+    host.start(record);
+    let answer = requests::send(host.assoc, items, host.gather.lend(), host.out.lend());
+    host.told(rt, answer);
+    Some(())
 }

@@ -1,141 +1,187 @@
 // The calls that read, judge or choose.
-use crate::buffers::{IN_SHEET, SHEET, digest, front};
-use crate::print::{mark, print, print_with};
-use crate::words::{FIRST, LENT, SECOND, Words, bytes, number};
+use crate::buffers::{Buffer, IN_SHEET, SHEET};
+use crate::print::{print, print_with, yes_or_no};
+use crate::words::Words;
 use reading::Associate;
 use titles::Place;
 
 // K PDU
-pub(crate) fn kind(rt: &impl Print, line: &[u8], w: &Words) {
-    let pdu = bytes(line, w, FIRST);
+pub(crate) fn kind(rt: &impl Print, mut words: Words) -> Option<()> {
+    let pdu = words.bytes()?;
+    words.end()?;
     print(
         rt,
         &[
-            judging::kind_of(pdu) as u64,
-            mark(judging::acceptable(pdu)),
-            judging::maximum_of(pdu) as u64,
+            u64::from(judging::kind_of(pdu)),
+            u64::from(judging::acceptable(pdu)),
+            u64::from(judging::maximum_of(pdu)),
         ],
     );
+    Some(())
 }
 
-fn fields(call: u8, pdu: &[u8], sheet: &mut [u8], roles: &mut [u8]) -> Associate {
-    if call == b'Q' {
-        reading::read_request(pdu, sheet, roles)
-    } else {
-        reading::read_accept(pdu, sheet, roles)
-    }
-}
-
-fn wide(n: u16) -> u64 {
-    n as u64
-}
-
-// Q PDU SHEETLEN ROLESLEN, A PDU SHEETLEN ROLESLEN
-pub(crate) fn associate(rt: &impl Print, call: u8, line: &[u8], w: &Words) {
-    let n = number(w, SECOND) as usize;
-    let m = number(w, LENT) as usize;
-    let mut sheet = [IN_SHEET; SHEET];
-    let mut roles = [IN_SHEET; SHEET];
-    let f = fields(
-        call,
-        bytes(line, w, FIRST),
-        front(&mut sheet, n),
-        front(&mut roles, m),
-    );
+fn print_fields(rt: &impl Print, f: Associate, sheet: &Buffer<SHEET>, roles: &Buffer<SHEET>) {
     print(
         rt,
         &[
-            f.refusal as u64,
-            f.version as u64,
+            u64::from(f.refusal),
+            u64::from(f.version),
             f.application_at as u64,
             f.application_len as u64,
-            f.maximum as u64,
+            u64::from(f.maximum),
             f.records as u64,
             f.class_at as u64,
             f.class_len as u64,
             f.version_name_at as u64,
             f.version_name_len as u64,
-            wide(f.invoked),
-            wide(f.performed),
+            u64::from(f.invoked),
+            u64::from(f.performed),
             f.roles as u64,
-            digest(&sheet, n),
-            digest(&roles, m),
+            sheet.digest(),
+            roles.digest(),
         ],
     );
+}
+
+// Q PDU SHEETLEN ROLESLEN
+pub(crate) fn request(rt: &impl Print, mut words: Words) -> Option<()> {
+    let pdu = words.bytes()?;
+    let mut sheet = Buffer::new(IN_SHEET, words.sheet_length()?);
+    let mut roles = Buffer::new(IN_SHEET, words.sheet_length()?);
+    words.end()?;
+    let fields = reading::read_request(pdu, sheet.lend(), roles.lend());
+    print_fields(rt, fields, &sheet, &roles);
+    Some(())
+}
+
+// A PDU SHEETLEN ROLESLEN
+pub(crate) fn accept(rt: &impl Print, mut words: Words) -> Option<()> {
+    let pdu = words.bytes()?;
+    let mut sheet = Buffer::new(IN_SHEET, words.sheet_length()?);
+    let mut roles = Buffer::new(IN_SHEET, words.sheet_length()?);
+    words.end()?;
+    let fields = reading::read_accept(pdu, sheet.lend(), roles.lend());
+    print_fields(rt, fields, &sheet, &roles);
+    Some(())
 }
 
 // J PDU
-pub(crate) fn reject(rt: &impl Print, line: &[u8], w: &Words) {
-    let f = reading::read_reject(bytes(line, w, FIRST));
+pub(crate) fn reject(rt: &impl Print, mut words: Words) -> Option<()> {
+    let pdu = words.bytes()?;
+    words.end()?;
+    let f = reading::read_reject(pdu);
     print(
         rt,
         &[
-            f.refusal as u64,
-            f.result as u64,
-            f.source as u64,
-            f.reason as u64,
+            u64::from(f.refusal),
+            u64::from(f.result),
+            u64::from(f.source),
+            u64::from(f.reason),
         ],
     );
+    Some(())
 }
 
 // B PDU
-pub(crate) fn abort(rt: &impl Print, line: &[u8], w: &Words) {
-    let f = reading::read_abort(bytes(line, w, FIRST));
-    print(rt, &[f.refusal as u64, f.source as u64, f.reason as u64]);
+pub(crate) fn abort(rt: &impl Print, mut words: Words) -> Option<()> {
+    let pdu = words.bytes()?;
+    words.end()?;
+    let f = reading::read_abort(pdu);
+    print(
+        rt,
+        &[
+            u64::from(f.refusal),
+            u64::from(f.source),
+            u64::from(f.reason),
+        ],
+    );
+    Some(())
 }
 
 // D PDU NUMBER
-pub(crate) fn data(rt: &impl Print, line: &[u8], w: &Words) {
-    let pdu = bytes(line, w, FIRST);
-    let number = number(w, SECOND) as usize;
+pub(crate) fn data(rt: &impl Print, mut words: Words) -> Option<()> {
+    let pdu = words.bytes()?;
+    let number = words.count()?;
+    words.end()?;
     let f = reading::read_data(pdu, number);
     let numbers = [
-        f.refusal as u64,
-        f.id as u64,
-        f.control as u64,
+        u64::from(f.refusal),
+        u64::from(f.id),
+        u64::from(f.control),
         f.start as u64,
         f.len as u64,
     ];
     print_with(rt, &numbers, reading::fragment(pdu, number));
+    Some(())
 }
 
 // P PDU PLACE
-pub(crate) fn pdv_at(rt: &impl Print, line: &[u8], w: &Words) {
-    let f = reading::pdv_at(bytes(line, w, FIRST), number(w, SECOND) as usize);
+pub(crate) fn pdv_at(rt: &impl Print, mut words: Words) -> Option<()> {
+    let pdu = words.bytes()?;
+    let at = words.count()?;
+    words.end()?;
+    let f = reading::pdv_at(pdu, at);
     print(
         rt,
         &[
-            f.refusal as u64,
-            f.id as u64,
-            f.control as u64,
+            u64::from(f.refusal),
+            u64::from(f.id),
+            u64::from(f.control),
             f.start as u64,
             f.len as u64,
         ],
     );
-}
-
-fn print_place(rt: &impl Print, refusal: u8, known: u64, place: u64) {
-    print(rt, &[refusal as u64, known, place]);
+    Some(())
 }
 
 // T OWN SOUGHT
-pub(crate) fn title_place(rt: &impl Print, line: &[u8], w: &Words) {
-    let found = titles::title_place(bytes(line, w, FIRST), bytes(line, w, SECOND));
-    match found {
-        Place::At(k) => print_place(rt, numbers::NOT_REFUSED, 1, k as u64),
-        Place::None => print_place(rt, numbers::NOT_REFUSED, 0, 0),
-        Place::Refused => print_place(rt, numbers::BAD_CONTENTS, 0, 0),
+pub(crate) fn title_place(rt: &impl Print, mut words: Words) -> Option<()> {
+    let own = words.bytes()?;
+    let sought = words.bytes()?;
+    words.end()?;
+    match titles::title_place(own, sought) {
+        Place::At(place) => print(rt, &[u64::from(numbers::NOT_REFUSED), 1, place as u64]),
+        Place::None => print(rt, &[u64::from(numbers::NOT_REFUSED), 0, 0]),
+        Place::Refused => print(rt, &[u64::from(numbers::BAD_CONTENTS), 0, 0]),
     }
+    Some(())
 }
 
 // C PROPOSAL SITE SHEETLEN
-pub(crate) fn choose(rt: &impl Print, line: &[u8], w: &Words) {
-    let n = number(w, LENT) as usize;
-    let mut sheet = [IN_SHEET; SHEET];
-    let c = choosing::choose(
-        bytes(line, w, FIRST),
-        bytes(line, w, SECOND),
-        front(&mut sheet, n),
+pub(crate) fn choose(rt: &impl Print, mut words: Words) -> Option<()> {
+    let proposal = words.sheet()?;
+    let site = words.sheet()?;
+    let mut sheet: Buffer<SHEET> = Buffer::new(IN_SHEET, words.sheet_length()?);
+    words.end()?;
+    let c = choosing::choose(proposal, site, sheet.lend());
+    print(
+        rt,
+        &[u64::from(c.refusal), c.records as u64, sheet.digest()],
     );
-    print(rt, &[c.refusal as u64, c.records as u64, digest(&sheet, n)]);
+    Some(())
+}
+
+// N NAME
+pub(crate) fn name(rt: &impl Print, mut words: Words) -> Option<()> {
+    let name = words.bytes()?;
+    words.end()?;
+    yes_or_no(rt, names::name_ok(name));
+    Some(())
+}
+
+// V TITLE
+pub(crate) fn title(rt: &impl Print, mut words: Words) -> Option<()> {
+    let title = words.bytes()?;
+    words.end()?;
+    yes_or_no(rt, titles::title_ok(title));
+    Some(())
+}
+
+// E TITLE TITLE
+pub(crate) fn titles(rt: &impl Print, mut words: Words) -> Option<()> {
+    let first = words.bytes()?;
+    let second = words.bytes()?;
+    words.end()?;
+    yes_or_no(rt, titles::titles_equal(first, second));
+    Some(())
 }

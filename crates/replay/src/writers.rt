@@ -1,51 +1,104 @@
 // The calls that write, into an output of OUTLEN bytes.
-use crate::buffers::{IN_OUTPUT, buffer, digest, front};
+use crate::associate::{accept_in, request_in};
+use crate::buffers::{BUFFER, Buffer, IN_OUTPUT};
 use crate::print::print;
-use crate::words::{
-    CLASS, CONTEXTS, FIRST, INVOKED, LENT, PERFORMED, ROLES, SECOND, THIRD, VERSION_NAME, Words,
-    byte, bytes, number, short,
-};
+use crate::words::Words;
 use writing::Sent;
 
 // The peer's maximum length for `4`: none.
 const NO_LIMIT: u32 = 0;
 
-fn sent(call: u8, line: &[u8], w: &Words, out: &mut [u8]) -> Sent {
-    match call {
-        b'1' => writing_associate::write_request(
-            bytes(line, w, FIRST),
-            bytes(line, w, SECOND),
-            bytes(line, w, THIRD),
-            bytes(line, w, CLASS),
-            bytes(line, w, VERSION_NAME),
-            short(w, INVOKED),
-            short(w, PERFORMED),
-            bytes(line, w, ROLES),
-            bytes(line, w, CONTEXTS),
-            out,
-        ),
-        b'2' => writing_associate::write_accept(
-            bytes(line, w, SECOND),
-            bytes(line, w, THIRD),
-            bytes(line, w, CLASS),
-            bytes(line, w, VERSION_NAME),
-            short(w, INVOKED),
-            short(w, PERFORMED),
-            bytes(line, w, ROLES),
-            bytes(line, w, CONTEXTS),
-            out,
-        ),
-        b'3' => writing::write_reject(byte(w, FIRST), byte(w, SECOND), byte(w, THIRD), out),
-        b'4' => writing::write_data(bytes(line, w, FIRST), NO_LIMIT, out),
-        b'5' => writing::write_release_request(out),
-        b'6' => writing::write_release_response(out),
-        _ => writing::write_abort(byte(w, FIRST), byte(w, SECOND), out),
-    }
+// The last word of each of them, OUTLEN.
+fn output(words: &mut Words) -> Option<Buffer<BUFFER>> {
+    let out = Buffer::new(IN_OUTPUT, words.length()?);
+    words.end()?;
+    Some(out)
 }
 
-pub(crate) fn write(rt: &impl Print, call: u8, line: &[u8], w: &Words) {
-    let n = number(w, LENT) as usize;
-    let mut out = buffer(IN_OUTPUT);
-    let s = sent(call, line, w, front(&mut out, n));
-    print(rt, &[s.refusal as u64, s.count as u64, digest(&out, n)]);
+fn told(rt: &impl Print, sent: Sent, out: &Buffer<BUFFER>) -> Option<()> {
+    print(
+        rt,
+        &[u64::from(sent.refusal), sent.count as u64, out.digest()],
+    );
+    Some(())
+}
+
+// 1 CALLED CALLING APPLICATION USER SHEET OUTLEN
+pub(crate) fn request(rt: &impl Print, mut words: Words) -> Option<()> {
+    let request = request_in(&mut words)?;
+    let mut out = output(&mut words)?;
+    let user = request.user;
+    let sent = writing_associate::write_request(
+        request.called,
+        request.calling,
+        request.application,
+        user.class_uid,
+        user.version_name,
+        user.invoked,
+        user.performed,
+        user.roles,
+        request.sheet,
+        out.lend(),
+    );
+    told(rt, sent, &out)
+}
+
+// 2 ECHOED APPLICATION USER SHEET OUTLEN
+pub(crate) fn accept(rt: &impl Print, mut words: Words) -> Option<()> {
+    let accept = accept_in(&mut words)?;
+    let mut out = output(&mut words)?;
+    let user = accept.user;
+    let sent = writing_associate::write_accept(
+        accept.echoed,
+        accept.application,
+        user.class_uid,
+        user.version_name,
+        user.invoked,
+        user.performed,
+        user.roles,
+        accept.sheet,
+        out.lend(),
+    );
+    told(rt, sent, &out)
+}
+
+// 3 RESULT SOURCE REASON OUTLEN
+pub(crate) fn reject(rt: &impl Print, mut words: Words) -> Option<()> {
+    let res = words.byte()?;
+    let source = words.byte()?;
+    let reason = words.byte()?;
+    let mut out = output(&mut words)?;
+    let sent = writing::write_reject(res, source, reason, out.lend());
+    told(rt, sent, &out)
+}
+
+// 4 ITEMS OUTLEN
+pub(crate) fn data(rt: &impl Print, mut words: Words) -> Option<()> {
+    let items = words.bytes()?;
+    let mut out = output(&mut words)?;
+    let sent = writing::write_data(items, NO_LIMIT, out.lend());
+    told(rt, sent, &out)
+}
+
+// 5 OUTLEN
+pub(crate) fn release_request(rt: &impl Print, mut words: Words) -> Option<()> {
+    let mut out = output(&mut words)?;
+    let sent = writing::write_release_request(out.lend());
+    told(rt, sent, &out)
+}
+
+// 6 OUTLEN
+pub(crate) fn release_response(rt: &impl Print, mut words: Words) -> Option<()> {
+    let mut out = output(&mut words)?;
+    let sent = writing::write_release_response(out.lend());
+    told(rt, sent, &out)
+}
+
+// 7 SOURCE REASON OUTLEN
+pub(crate) fn abort(rt: &impl Print, mut words: Words) -> Option<()> {
+    let source = words.byte()?;
+    let reason = words.byte()?;
+    let mut out = output(&mut words)?;
+    let sent = writing::write_abort(source, reason, out.lend());
+    told(rt, sent, &out)
 }
