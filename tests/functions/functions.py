@@ -3,7 +3,8 @@
     functions.py           holds each to the rules below, and the table of docs/PROMISES.md to the sources
     functions.py --write   writes that table anew
 
-A public function has a contract on its answer and no `requires`, and a theorem FUNCTION_agrees in its crate's proofs.
+A public function, or a public method of an impl block, has a contract on its answer and no `requires`, and a theorem FUNCTION_agrees in its crate's proofs.
+A method of a trait's impl has the trait's contract, and may have edits. A method goes by its name, and where two functions of a crate would have one name by that of its type before it: number of Kind is kind_number.
 A wrong answer is an edit that the prover must refuse, crates/NAME/must-fail/FUNCTION.WHAT.edit, of the code (src/), of a contract (an
 `ensures` in src/) or of a definition (specs/), never of a proof: the last two are counted apart from code. A function that decides something
 has two, one of them at least an edit of its code; a thin one, that is one for C or of three lines or fewer, has one.
@@ -16,6 +17,9 @@ import sys
 PAGE = "docs/PROMISES.md"
 OPENS, CLOSES = "<!-- functions: written by tests/functions/functions.py -->", "<!-- end of functions -->"
 FUNCTION = re.compile(r"^pub (extern \"C\" )?fn (\w+)((?:.*\n)*?)\{\n((?:.*\n)*?)\}\n", re.M)
+METHOD = re.compile(r"^    pub (?:const )?fn (\w+)((?:.*\n)*?)    \{\n((?:.*\n)*?)    \}\n", re.M)
+BLOCK = re.compile(r"^impl(?:<[^>]*>)? (?:.* for )?(\w+)", re.M)
+OF_TRAIT = re.compile(r"^impl(?:<[^>]*>)? .* for (\w+).*\{\n((?:(?!\}).*\n)*)\}\n", re.M)
 DECLARED = re.compile(r"^ *pub ([\w-]+) :", re.M)
 
 wrong = []
@@ -42,7 +46,7 @@ def in_contract(crate, edit):
         elif line.startswith("old: ") and file.startswith("src/"):
             before = read(f"crates/{crate}/{file}").split(line[5:])[0]
             clauses = [found.start() for found in re.finditer(r"\bensures( \w+)? \{", before)]
-            if max(clauses, default=-1) <= before.rfind("\n{\n"):
+            if max(clauses, default=-1) <= max(before.rfind("\n{\n"), before.rfind("\n    {\n")):
                 return False
     return True
 
@@ -70,6 +74,31 @@ def theorems(crate):
     return found
 
 
+def snake(name):
+    return re.sub(r"(?<!^)(?=[A-Z])", "_", name).lower()
+
+
+def public(crate):
+    """(source, name, shown, for C, header, body) of each public function and method of a crate"""
+    found = []
+    for source in sorted(glob.glob(f"crates/{crate}/src/**/*.rt", recursive=True)):
+        text = read(source)
+        for for_c, name, header, body in FUNCTION.findall(text):
+            found.append((source, "", name, bool(for_c), header, body))
+        methods = list(METHOD.finditer(text))
+        for method in methods:
+            block = list(BLOCK.finditer(text[: method.start()]))[-1].group(1)
+            found.append((source, block, method.group(1), False, method.group(2), method.group(3)))
+        top = len(re.findall(r"^pub (?:extern |const |unsafe )*(?:\"C\" )?fn ", text, re.M))
+        inner = len(re.findall(r"^ +pub (?:const |unsafe )*fn ", text, re.M))
+        if top != len(FUNCTION.findall(text)) or inner != len(methods):
+            wrong.append(f"{source}: a public function that this test cannot read")
+    names = [name for _, _, name, _, _, _ in found]
+    for source, block, name, for_c, header, body in found:
+        one = f"{snake(block)}_{name}" if block and names.count(name) > 1 else name
+        yield source, one, f"{block}::{name}" if block else name, for_c, header, body
+
+
 def link(text, path):
     return f"[{text.replace('_', ' ')}](../{path})"
 
@@ -78,28 +107,31 @@ def rows_of(crate):
     """the table's rows for a library"""
     tried, proved = list(edits(crate)), theorems(crate)
     known = set()
+    for source, name, shown, for_c, header, body in public(crate):
+        known.add(name)
+        where, agrees = f"{source}: `{shown}`", f"{name}_agrees"
+        thin = for_c or body.count("\n") <= 3
+        if "ensures" not in header:
+            wrong.append(f"{where} has no contract on its answer")
+        if "requires" in header:
+            wrong.append(f"{where} has a `requires`")
+        if agrees not in proved:
+            wrong.append(f"{where} has no theorem {agrees}")
+        code = [(what, path) for function, what, path, kind in tried if function == name and kind == "code"]
+        specs = [(what, path) for function, what, path, kind in tried if function == name and kind != "code"]
+        if len(code) + len(specs) < (1 if thin else 2):
+            wrong.append(f"{where} has {len(code) + len(specs)} wrong answers, of {1 if thin else 2}")
+        if not code and not thin:
+            wrong.append(f"{where} has no edit of its code")
+        agreement = f"[`{agrees}`](../{proved.get(agrees, '')})"
+        yield f"| {crate} | [`{shown}`](../{source}) | {agreement} | {'; '.join(link(*c) for c in code)} | {'; '.join(link(*c) for c in specs)} |"
     for source in sorted(glob.glob(f"crates/{crate}/src/**/*.rt", recursive=True)):
-        text = read(source)
-        for for_c, name, header, body in FUNCTION.findall(text):
-            known.add(name)
-            where, agrees = f"{source}: `{name}`", f"{name}_agrees"
-            thin = bool(for_c) or body.count("\n") <= 3
-            if "ensures" not in header:
-                wrong.append(f"{where} has no contract on its answer")
-            if "requires" in header:
-                wrong.append(f"{where} has a `requires`")
-            if agrees not in proved:
-                wrong.append(f"{where} has no theorem {agrees}")
-            code = [(what, path) for function, what, path, kind in tried if function == name and kind == "code"]
-            specs = [(what, path) for function, what, path, kind in tried if function == name and kind != "code"]
-            if len(code) + len(specs) < (1 if thin else 2):
-                wrong.append(f"{where} has {len(code) + len(specs)} wrong answers, of {1 if thin else 2}")
-            if not code and not thin:
-                wrong.append(f"{where} has no edit of its code")
-            agreement = f"[`{agrees}`](../{proved.get(agrees, '')})"
-            yield f"| {crate} | [`{name}`](../{source}) | {agreement} | {'; '.join(link(*c) for c in code)} | {'; '.join(link(*c) for c in specs)} |"
-        if text.count("\npub fn ") + text.count("\npub extern ") + text.startswith("pub fn ") != len(FUNCTION.findall(text)):
-            wrong.append(f"{source}: a public function that this test cannot read")
+        for block, inside in OF_TRAIT.findall(read(source)):
+            for name in re.findall(r"^    fn (\w+)", inside, re.M):
+                code = [(what, path) for function, what, path, kind in tried if function == name and kind == "code"]
+                if name not in known and code:
+                    known.add(name)
+                    yield f"| {crate} | [`{block}::{name}`](../{source}) | the trait's contract | {'; '.join(link(*c) for c in code)} | |"
     for function, what, path, _ in tried:
         if function not in known:
             wrong.append(f"{path}: the crate has no public function {function}")
@@ -125,7 +157,7 @@ def main():
                     wrong.append(f"{source}: `{found}`: a program has no public function")
             for _, _, path, _ in edits(crate):
                 wrong.append(f"{path}: the edit of a program, which has no public function")
-        elif any(re.search(r"^(?:pub[^\n]* )?fn ", read(source), re.M) for source in sources):
+        elif any(re.search(r"^(?:    )?(?:pub[^\n]* )?fn ", read(source), re.M) for source in sources):
             functions += rows_of(crate)
         else:
             definitions += without_code(crate)

@@ -1,4 +1,4 @@
-"""Holds the numbers that have a name to one value: as a constant of the code, in the definitions (a dash for each underscore) and in include/feohanna.h (FEO_ before it).
+"""Holds the numbers that have a name to one value: as a constant of the code or a variant of an enum there (BlankCell is BLANK_CELL), in the definitions (a dash for each underscore) and in include/feohanna.h (FEO_ before it).
 
 Where a crate has a name in both its code and its definitions, the values are equal; refusals, kinds, lengths, results, actions and events stand in both. The header's refusals, actions and
 events are those of the code, and it has every length of the code but TEN, some with _LEN behind the name; the rooms of its sheets are those that sheet_room proves to be enough, and its results of
@@ -9,6 +9,8 @@ import re
 import sys
 
 CONSTANT = re.compile(r"^\s*pub const ([A-Z][A-Z0-9_]*): \w+ = (0x[0-9a-fA-F]+|\d+);", re.M)
+ENUM = re.compile(r"^pub enum (\w+) \{\n(.*?)^\}$", re.M | re.S)
+VARIANT = re.compile(r"^    (\w+)(?: = (0x[0-9a-fA-F]+|\d+))?,$", re.M)
 DEFINED = re.compile(r"^abbrev pub ([A-Z][A-Z0-9-]*|····) : ℕ\n\1 = (0x[0-9a-fA-F]+|\d+)$", re.M)
 HEADER = "include/feohanna.h"
 LENGTHS = "crates/numbers/src/lengths.rt"
@@ -37,6 +39,20 @@ def read(path):
 def named(pattern, paths):
     """name -> value, with the names as the code has them"""
     return {name.replace("····", "NO_ACTION").replace("-", "_"): int(value, 0) for path in sorted(paths) for name, value in pattern.findall(read(path))}
+
+
+def coded(paths):
+    """name -> value, of the code: its constants, and the variants of an enum that has a number for each"""
+    found = named(CONSTANT, paths)
+    for path in sorted(paths):
+        for _, variants in ENUM.findall(read(path)):
+            given = VARIANT.findall(variants)
+            if given and all(value for _, value in given):
+                for name, value in given:
+                    name = re.sub(r"(?<!^)(?=[A-Z])", "_", name).upper()
+                    if found.setdefault(name, int(value, 0)) != int(value, 0):
+                        sys.exit(f"{path}: {name} is {found[name]} and {int(value, 0)}")
+    return found
 
 
 def enum(name):
@@ -72,13 +88,13 @@ def main():
             wrong.append(f"{name} stands in {what if name in ours else where}, and not in {where if name in ours else what}")
 
     for crate in sorted(path.split("/")[1] for path in glob.glob("crates/*/src")):
-        code = named(CONSTANT, glob.glob(f"crates/{crate}/src/**/*.rt", recursive=True))
+        code = coded(glob.glob(f"crates/{crate}/src/**/*.rt", recursive=True))
         specs = named(DEFINED, glob.glob(f"crates/{crate}/specs/**/*.antt", recursive=True))
         same(f"crates/{crate}", code, specs, "its definitions")
     for source, definitions in BOTH:
-        both(source, named(CONSTANT, [source]), named(DEFINED, [definitions]), definitions)
+        both(source, coded([source]), named(DEFINED, [definitions]), definitions)
     lengths = {name: value for name, value in named(CONSTANT, [LENGTHS]).items() if name != "TEN"}
-    header = [(source, named(CONSTANT, [source]), enum(name), f"{HEADER}, {name}") for source, name in ENUMS]
+    header = [(source, coded([source]), enum(name), f"{HEADER}, {name}") for source, name in ENUMS]
     header.append((LENGTHS, lengths, {name: value for name, value in macros().items() if name in lengths}, HEADER))
     header.append((ROOM, rooms(ROOM, r"^pub (\w+)_most : .* ≤ 132 \* (\d+)$"), rooms(HEADER, r"^#define FEO_(\w+)_ROOM \(FEO_RECORD_LEN \* (\d+)\)$"), HEADER))
     for pair in header:

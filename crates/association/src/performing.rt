@@ -4,6 +4,7 @@ ghost use Rattle.association.specs.Record.{standing};
 ghost use Rattle.association.specs.Performing.{requestor_after, entering as enteringOf, leaving, after as after_of, ten_by};
 
 use crate::{Assoc, Brings};
+use table::Sends;
 
 fn requestor_after(action: u8, a: Assoc) -> bool
     ensures { result ≡ requestor_after action (standing a) }
@@ -48,11 +49,12 @@ pub fn ten_by(action: u8, accepts: bool, abort: u8) -> u8
     ensures { result ≡ ten_by action accepts abort }
 {
     match table::sends(action, accepts) {
-        table::SENDS_REJECT_VERSION => writing::REJECT_VERSION,
-        table::SENDS_RELEASE_RQ => writing::TEN_RELEASE_RQ,
-        table::SENDS_RELEASE_RP => writing::TEN_RELEASE_RP,
-        table::SENDS_ABORT_USER => writing::ABORT_USER,
-        table::SENDS_ABORT_PROVIDER => abort,
-        _ => writing::NO_TEN,
+        Sends::Nothing => writing::NO_TEN,
+        Sends::Contents => writing::NO_TEN,
+        Sends::RejectVersion => writing::REJECT_VERSION,
+        Sends::ReleaseRq => writing::TEN_RELEASE_RQ,
+        Sends::ReleaseRp => writing::TEN_RELEASE_RP,
+        Sends::AbortUser => writing::ABORT_USER,
+        Sends::AbortProvider => abort,
     }
 }

@@ -26,7 +26,7 @@ fn subs_ok(s: &[u8]) -> bool
     let mut at: usize = 0;
     let mut st: u8 = 0;
     while at < s.len() {
-        let e = items::item_end(s, at);
+        let e = items::end_at(s, at);
         if e == 0 {
             return false;
         }

@@ -28,7 +28,7 @@ pub(crate) fn ids_differ(k: u8, s: &[u8]) -> bool
     let mut seen = id_set::empty();
     let mut at: usize = 0;
     while at < s.len() {
-        let e = items::item_end(s, at);
+        let e = items::end_at(s, at);
         if e == 0 {
             return true;
         }

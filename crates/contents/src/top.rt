@@ -30,7 +30,7 @@ fn top_ok(k: u8, s: &[u8]) -> bool
     let mut at: usize = 0;
     let mut st: u8 = 0;
     while at < s.len() {
-        let e = items::item_end(s, at);
+        let e = items::end_at(s, at);
         if e == 0 {
             return false;
         }

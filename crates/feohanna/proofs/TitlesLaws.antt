@@ -1,29 +1,31 @@
 -- The three numbers of each answer of the title check.
 -- Assumes nothing.
 use Prim.Native.Nat.{ℕ}
-use mathlib.Core.Path.{◌≡◌}
+use mathlib.Core.Path.{◌≡◌, refl}
 use mathlib.Core.List.{List}
 use borrow.Author.Rules.{rules}
 use native.Mathlib.Omega.{arith}
 use mir.Syntax.{w8}
 use mir.Val.{Fits}
-use Rattle.titles.specs.declared.own.Place.{Place}
-use Rattle.titles.specs.declared.own.Place.TheVariants.{At, None, Refused}
-use Rattle.titles.specs.Own.{Checked, refusal, known_as, place_as}
+use Rattle.std.specs.Prelude.{Option, None, Some, Result, Ok, Err}
+use Rattle.numbers.specs.declared.refusals.Refusal.{Refusal}
+use Rattle.numbers.specs.Refusals.{refusal_number, refusal_in}
+use Rattle.titles.specs.Own.{Place.At, Checked}
+use Rattle.titles.specs.Answer.{known_in, place_in}
 use Rattle.titles.proofs.Meaning.{place_tells}
 
-module _ (own sought : List ℕ) (a : Place) (c : Checked own sought (refusal a) (known_as a) (place_as a)) where
-  pub told_at : (k : ℕ) → a ≡ At k → Checked own sought 0 1 k
+module _ (own sought : List ℕ) (a : Result (Option ℕ) Refusal) (c : Checked own sought (refusal_in a) (known_in a) (place_in a)) where
+  pub told_at : (k : ℕ) → a ≡ Ok (Some k) → Checked own sought 0 1 k
   told_at k q = rw q at c
 
-  pub told_none : a ≡ None → Checked own sought 0 0 0
+  pub told_none : a ≡ Ok None → Checked own sought 0 0 0
   told_none q = rw q at c
 
-  pub told_refused : a ≡ Refused → Checked own sought 4 0 0
-  told_refused q = rw q at c
+  pub told_refused : (e : Refusal) (n : ℕ) → a ≡ Err e → n ≡ refusal_number e → Checked own sought n 0 0
+  told_refused e n q m = rw m (rw q at c)
 
   -- a place is below 8, and so fits a byte
-  pub place_fits : (k : ℕ) → a ≡ At k → Fits w8 k
-  place_fits k q = let l = (place_tells own sought a c).low k q in omega (arith, l)
+  pub place_fits : (k : ℕ) → a ≡ Ok (Some k) → Fits w8 k
+  place_fits k q = let l = (place_tells own sought (At k) (told_at k q)).low k refl in omega (arith, l)
 
 pub ruleset telling = (told_at, told_none, told_refused, place_fits, rules)

@@ -1,8 +1,6 @@
 // The check of a sought title against our own: which of them it is.
 ghost use Rattle.titles.specs.Own.{Checked};
 
-use titles::Place;
-
 #[unsafe(no_mangle)]
 pub extern "C" fn feo_raw_title_place(
     own: &[u8],
@@ -12,22 +10,21 @@ pub extern "C" fn feo_raw_title_place(
 ) -> u8
     ensures { Checked own.now sought.now result known.new place.new }
 {
-    let found = titles::title_place(own, sought);
-    match found {
-        Place::At(k) => {
+    match titles::title_place(own, sought) {
+        Ok(Some(k)) => {
             *known = 1;
             *place = k as u8;
             numbers::NOT_REFUSED
         }
-        Place::None => {
+        Ok(None) => {
             *known = 0;
             *place = 0;
             numbers::NOT_REFUSED
         }
-        Place::Refused => {
+        Err(refusal) => {
             *known = 0;
             *place = 0;
-            numbers::BAD_CONTENTS
+            refusal.number()
         }
     }
 }

@@ -111,6 +111,15 @@ pub with_made : (m : List ℕ) (us : List Val) (id : ℕ) → length m ≡ 4 →
     → With m id (set m (id / 64) (bit_or (get_or m (id / 64) 0) (1 * 2 ^ (id % 64) % 18446744073709551616)))
 with_made m us id l p s = with_is m id s (words_of m us l p)
 
+-- the same for a set by reference, seen as m, whose words are w
+pub inserted : {m w : List ℕ} (id : ℕ) → w ≡ m → id < 256 → Words w
+    → With m id (set w (id / 64) (bit_or (get_or w (id / 64) 0) (1 * 2 ^ (id % 64) % 18446744073709551616)))
+inserted {m} {w} id e s f = subst (λ (n : List ℕ). With n id (more w id)) e (with_is w id s f)
+
+pub words_kept : (w : List ℕ) (id : ℕ) → id < 256 → Words w
+    → Words (set w (id / 64) (bit_or (get_or w (id / 64) 0) (1 * 2 ^ (id % 64) % 18446744073709551616)))
+words_kept w id s f = record { four = length-set w (id / 64) (bit_on w id) ∙ f.four; fit = fits w id s f }
+
 pub ruleset set_laws = (rules, has_is, with_made)
 
 -- ---- two sets with the same IDs are one

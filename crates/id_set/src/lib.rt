@@ -3,4 +3,4 @@
 
 mod set;
 
-pub use set::{empty, has, with};
+pub use set::{IdSet, empty, has, with};

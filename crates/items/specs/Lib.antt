@@ -1,3 +1,4 @@
 pub mod Private
 pub mod Items
 pub mod Wire
+pub mod Steps

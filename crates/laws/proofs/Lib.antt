@@ -9,3 +9,4 @@ pub mod Differ
 pub mod Below
 pub mod Refusals
 pub mod Agree
+pub mod Library

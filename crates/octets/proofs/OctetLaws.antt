@@ -1,29 +1,50 @@
--- Laws of numbers in bytes: what stands past the end, and each way through the reading code.
+-- Laws of numbers in bytes: what the code reads, at a place and past the end.
 -- Assumes nothing.
-use Prim.Native.Nat.{ℕ, ◌+◌, ◌*◌, ◌-◌, ◌≤◌}
-use mathlib.Core.Path.{◌≡◌, sym, ◌∙◌, ap}
+use Prim.Native.Nat.{ℕ, ◌+◌, ◌-◌, ◌^◌, ◌<◌, min}
+use mir.Syntax.{w16, w32}
+use Rattle.std.specs.Int.{from_be_bytes}
+use mathlib.Core.Path.{◌≡◌, sym, ◌∙◌}
 use mathlib.Core.List.{List}
-use lib.ListN.{length, drop, get_or, get_or-eq_default}
-use lib.Seq.{get_or-drop}
+use lib.ListN.{length, drop, get_or, get_or-eq_default, set}
+use lib.Seq.{get_or-drop, get_or-set_same, get_or-set_other}
+use borrow.Author.Count.{below_more}
 use native.Mathlib.Omega.{arith}
-use borrow.Author.Rules.{rules}
+use native.Mathlib.Decide.{dec_lt}
 use Rattle.octets.specs.Octets.{be16, be32}
 
-pub past : (s : List ℕ) (at : ℕ) → length s ≤ at → 0 ≡ get_or s at 0
-past s at h = sym (get_or-eq_default s 0 h)
+-- the place k further on, as the code counts it
+saturated : (s : List ℕ) (at k n : ℕ) → n ≡ min (at + k) (2 ^ 64 - 1) → length s < 2 ^ 64 → get_or s n 0 ≡ get_or s (at + k) 0
+saturated s at k n e h = go (dec_lt (at + k) (2 ^ 64))
+  where
+    go : Dec (at + k < 2 ^ 64) → get_or s n 0 ≡ get_or s (at + k) 0
+    go (yes l) = let m : n ≡ at + k = omega arith in rw m
+    go (no l) = get_or-eq_default s 0 (omega arith) ∙ sym (get_or-eq_default s 0 {n = at + k} (omega arith))
 
-pub ruleset byte_laws = (rules, past)
+pub filled : (xs s : List ℕ) (at i b n : ℕ) → i < length xs → ((k : ℕ) → k < i → get_or xs k 0 ≡ get_or s (at + k) 0) → b ≡ get_or s n 0 → n ≡ min (at + i) (2 ^ 64 - 1) → length s < 2 ^ 64
+    → (k : ℕ) → k < i + 1 → get_or (set xs i b) k 0 ≡ get_or s (at + k) 0
+filled xs s at i b n l v e q h =
+    below_more (λ (k : ℕ). get_or (set xs i b) k 0 ≡ get_or s (at + k) 0) i
+    (λ k m. get_or-set_other xs i k b 0 (λ z. omega arith) ∙ v k m)
+    (get_or-set_same xs i b 0 l ∙ (e ∙ saturated s at i n q h))
 
-module _ (s : List ℕ) (at : ℕ) where
-  pub past_16 : length s ≤ at → 0 ≡ be16 s at
-  unfolding be16
-  past_16 h = rw (← past s at h, ← past s (at + 1) (omega arith))
+pub joined_16 : (s bytes : List ℕ) (at : ℕ) → ((k : ℕ) → k < 2 → get_or bytes k 0 ≡ get_or s (at + k) 0) → from_be_bytes w16 bytes ≡ be16 s at
+unfolding be16
+joined_16 s bytes at f =
+    let z : at + 0 ≡ at = omega arith in
+    let a = f 0 (omega arith) in
+    let b = f 1 (omega arith) in
+    rw (a, b, z)
 
-  pub is_16 : {b r : ℕ} → b ≡ get_or s (at + 1) 0 → r ≡ get_or s at 0 * 256 + b → r ≡ be16 s at
-  unfolding be16
-  is_16 p q = q ∙ ap (λ (x : ℕ). get_or s at 0 * 256 + x) p
-
-pub ruleset two_laws = (rules, past_16, is_16)
+pub joined_32 : (s bytes : List ℕ) (at : ℕ) → ((k : ℕ) → k < 4 → get_or bytes k 0 ≡ get_or s (at + k) 0) → from_be_bytes w32 bytes ≡ be32 s at
+unfolding be32 be16
+joined_32 s bytes at f =
+    let z : at + 0 ≡ at = omega arith in
+    let m : at + 2 + 1 ≡ at + 3 = omega arith in
+    let a = f 0 (omega arith) in
+    let b = f 1 (omega arith) in
+    let c = f 2 (omega arith) in
+    let d = f 3 (omega arith) in
+    rw (a, b, c, d, z, m) (omega arith)
 
 -- the number at a place, seen from another
 pub be16_drop : (s : List ℕ) (at k : ℕ) → be16 (drop at s) k ≡ be16 s (at + k)
@@ -31,20 +52,3 @@ unfolding be16
 be16_drop s at k =
     let e : at + (k + 1) ≡ at + k + 1 = omega arith in
     rw (get_or-drop at s k 0, get_or-drop at s (k + 1) 0, e)
-
-module _ (s : List ℕ) (at : ℕ) where
-  pub past_32 : length s ≤ at → 0 ≡ be32 s at
-  unfolding be32
-  past_32 h = rw (← past_16 s at h, ← past_16 s (at + 2) (omega arith))
-
-  pub last_32 : {h r : ℕ} → length s - at ≡ 1 → h ≡ be16 s at → r ≡ h * 65536 + 0 → r ≡ be32 s at
-  unfolding be32
-  last_32 {h} e p q =
-      let z : 0 ≡ be16 s (at + 2) = past_16 s (at + 2) (omega arith) in
-      q ∙ (λ i. p i * 65536 + z i)
-
-  pub is_32 : {h l r : ℕ} → h ≡ be16 s at → l ≡ be16 s (at + 2) → r ≡ h * 65536 + l → r ≡ be32 s at
-  unfolding be32
-  is_32 p q e = e ∙ (λ i. p i * 65536 + q i)
-
-pub ruleset four_laws = (rules, past_32, last_32, is_32)

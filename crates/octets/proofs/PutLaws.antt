@@ -3,12 +3,11 @@
 use Prim.Native.Nat.{ℕ, ◌+◌, ◌-◌, ◌<◌, ◌≤◌}
 use mathlib.Core.Path.{◌≡◌, refl, sym, ◌∙◌, ap}
 use mathlib.Core.List.{List, [], ◌++◌, append_assoc}
-use lib.ListN.{length, take, drop, get_or, set, length-append, length-drop, take-append-drop}
-use lib.Seq.{paste, paste-zero, paste-suc, length-take-le, take_all, take_at, drop_at, drop-drop}
+use lib.ListN.{length, take, drop, length-append, length-drop, take-append-drop}
+use lib.Seq.{length-take-le, take_at, drop_at, drop-drop}
 use native.Mathlib.Nat.{add-zero, zero-add}
 use native.Mathlib.Omega.{arith}
-use native.Mathlib.Numerals.{add-one}
-use borrow.Author.Rules.{rules}
+use borrow.Rule.Slice.PartMut.{put_mid}
 use borrow.Author.Tests.{le-leb, lt-leb}
 use Rattle.octets.specs.Put.{put, front, placed, place_behind, Placed}
 use Rattle.octets.specs.Private.Put.{Put}
@@ -40,6 +39,19 @@ module _ (o : List ℕ) (at : ℕ) (bs : List ℕ) where
 
   pub placed_put : {r : ℕ} {o' : List ℕ} → Placed o at bs r o' → at + length bs ≤ length o → Put o at bs r o'
   placed_put p h = record { behind = put_behind p h; out = put_out p h }
+
+  -- ---- the code's three ways
+  pub no_place : length o < at → Placed o at bs at o
+  no_place h = record { behind = sym (behind_not (omega arith)); out = sym (placed_not (omega arith)) }
+
+  pub no_room : at ≤ length o → length o - at < length bs → Placed o at bs at o
+  no_room k h = record { behind = sym (behind_not (omega arith)); out = sym (placed_not (omega arith)) }
+
+  pub room : {v : List ℕ} → v ≡ bs → at ≤ length o → length bs ≤ length o - at → Placed o at bs (at + length bs) (put_mid at (at + length bs - at) o v)
+  unfolding put
+  room {v} e k h =
+      let n : at + (at + length bs - at) ≡ at + length bs = omega arith in
+      record { behind = sym (behind_fits (omega arith)); out = rw (placed_fits (omega arith), e, drop-drop (at + length bs - at) at o, n) }
 
 -- ---- the length stays; two puts, one behind the other, are one
 pub put_length : (o : List ℕ) (at : ℕ) (a : List ℕ) → at + length a ≤ length o → length (put o at a) ≡ length o
@@ -126,39 +138,3 @@ front_start o bs = take_at bs (drop (length bs) o) (length bs) refl
 pub front_behind : (o bs : List ℕ) → drop (length bs) (front o bs) ≡ drop (length bs) o
 unfolding front
 front_behind o bs = drop_at bs (drop (length bs) o) (length bs) refl
-
--- ---- the copying loop: i bytes of t are in
-pub copied : List ℕ → ℕ → List ℕ → ℕ → List ℕ
-copied o at t i = paste o at t i
-
-pub copy_start : (o : List ℕ) (at : ℕ) (t : List ℕ) → o ≡ copied o at t 0
-unfolding copied
-copy_start o at t = paste-zero o at t
-
-pub copy_next : (o out : List ℕ) (at : ℕ) (t : List ℕ) (i : ℕ) → out ≡ copied o at t i → i < length t → at + length t ≤ length o → set out (at + i) (get_or t i 0) ≡ copied o at t (i + 1)
-unfolding copied
-copy_next o out at t i e h l = rw (e, add-one i) (paste-suc o at t i 0 (omega arith) h)
-
-pub copy_done : (o out : List ℕ) (at : ℕ) (t : List ℕ) (i : ℕ) → out ≡ copied o at t i → i ≤ length t → length t ≤ i → out ≡ put o at t
-unfolding copied put
-copy_done o out at t i e h l =
-    let q : i ≡ length t = omega arith in
-    e ∙ (rw q (ap (λ (m : List ℕ). take at o ++ m ++ drop (at + length t) o) (take_all (length t) t (omega arith)) ∙ append_assoc (take at o) t (drop (at + length t) o)))
-
-pub ruleset copy_laws = (rules, copy_start, copy_next, copy_done)
-
--- ---- the three ways through `put`
-module _ (o : List ℕ) (at : ℕ) (bs : List ℕ) where
-  pub outside : length o < at → Placed o at bs at o
-  outside h = record { behind = sym (behind_not o at bs (omega arith)); out = sym (placed_not o at bs (omega arith)) }
-
-  pub too_long : at ≤ length o → length o - at < length bs → Placed o at bs at o
-  too_long h l = record { behind = sym (behind_not o at bs (omega arith)); out = sym (placed_not o at bs (omega arith)) }
-
-  pub within : {o' : List ℕ} → at ≤ length o → length bs ≤ length o - at → o' ≡ put o at bs → Placed o at bs (at + length bs) o'
-  within h l e = record { behind = sym (behind_fits o at bs (omega arith)); out = e ∙ sym (placed_fits o at bs (omega arith)) }
-
-  pub kept_length : {o' : List ℕ} → at ≤ length o → length bs ≤ length o - at → o' ≡ put o at bs → length o' ≡ length o
-  kept_length h l e = ap length e ∙ put_length o at bs (omega arith)
-
-pub ruleset put_laws = (rules, outside, too_long, within, kept_length)

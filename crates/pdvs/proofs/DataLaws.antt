@@ -1,16 +1,16 @@
 -- The PDV items of a P-DATA-TF: the equation that `pdvs` is, one step of it at a place of the bytes, and the loop that judges them.
 -- Assumes nothing.
-use Prim.Native.Nat.{ℕ, ◌+◌, ◌-◌, ◌%◌, ◌≤◌, ◌<◌}
+use Prim.Native.Nat.{ℕ, zero, suc, ◌+◌, ◌-◌, ◌%◌, ◌≤◌, ◌<◌}
 use native.Mathlib.Omega.{arith}
-use mathlib.Core.Bool.{Bool, true, false, ◌&&◌, cond, and-false}
+use mathlib.Core.Bool.{Bool, true, false, ◌&&◌, cond, and-false, and-true}
 use mathlib.Core.List.{List, [], ◌∷◌}
-use mathlib.Core.Path.{◌≡◌, refl, sym, ◌∙◌}
+use mathlib.Core.Path.{◌≡◌, refl, sym, ap, ◌∙◌}
 use lib.ListN.{length, take, drop, get_or, length-drop, drop_of_length-le}
 use lib.Seq.{drop-drop, get_or-drop, length-take-le}
 use lib.Dec.{leb, eqb}
 use borrow.Author.Tests.{le-leb, lt-leb, eq-eqb, ne_eqb, eqb-true, eqb-false}
 use Rattle.laws.specs.Lists.{all}
-use Rattle.laws.proofs.Parts.{stepped, part_there, part_stands, part_not, parting}
+use Rattle.laws.proofs.Parts.{stepped, part_there, part_stands, part_not}
 use Rattle.octets.specs.Octets.{be16, be32}
 use Rattle.octets.proofs.OctetLaws.{be16_drop}
 use Rattle.pdvs.specs.Data.{Pdv, pdv_step, pdvs_in, pdvs, size, pdv_ok, pdvs_ok, pdv_end}
@@ -62,76 +62,60 @@ pub pdv_over : (s : List ℕ) (at : ℕ) → length s ≤ at → pdvs (drop at s
 unfolding pdv_step be32 be16
 pdv_over s at h = rw (drop_of_length-le s h) (pdvs_step [])
 
+-- the PDV items lie within the bytes
+size_within : (n : ℕ) (s : List ℕ) → length s ≤ n → size (pdvs s) ≤ length s
+size_within zero s h = let e : pdvs s ≡ [] = pdv_over s 0 (omega arith) in rw e (omega arith)
+size_within (suc n) s h = go (size_within n (drop (pdv_end s 0) s)) (eqb (pdv_end s 0) 0) refl
+  where
+    go : (length (drop (pdv_end s 0) s) ≤ n → size (pdvs (drop (pdv_end s 0) s)) ≤ length (drop (pdv_end s 0) s)) → (d : Bool) → eqb (pdv_end s 0) 0 ≡ d → size (pdvs s) ≤ length s
+    go within true q = let e : pdvs s ≡ [] = pdv_stop s 0 (pdv_end s 0) refl (eqb-true _ _ q) in rw e (omega arith)
+    go within false q =
+        let i = pdv_more s 0 (pdv_end s 0) refl (eqb-false _ _ q) in
+        let l = length-drop (pdv_end s 0) s in
+        let m = length-drop 6 s in
+        let f : length (take (pdv_end s 0 - 6) (drop 6 s)) ≡ pdv_end s 0 - 6 = length-take-le (pdv_end s 0 - 6) (drop 6 s) (omega arith) in
+        let r = within (omega arith) in
+        let e : pdvs s ≡ pdv_at s 0 (pdv_end s 0) ∷ pdvs (drop (pdv_end s 0) s) = i.eq in
+        rw e (omega arith)
+
 -- ---- `pdvs_ok`
--- the PDV items fill s, and each is good
-abbrev rest_ok : ℕ → List ℕ → Bool
-rest_ok most s = eqb (size (pdvs s)) (length s) && all (pdv_ok most) (pdvs s)
+-- the PDVs so far are good and took so many bytes; ps are to come
+pub record Judging (most : ℕ) (s : List ℕ) (taken : ℕ) (ps : List Pdv) : Type 0 where
+  pub rest : pdvs_ok most s ≡ (leb 1 (length s) && (eqb (taken + size ps) (length s) && all (pdv_ok most) ps))
+  pub within : taken + size ps ≤ length s
 
-pub record Judging (most : ℕ) (s : List ℕ) (at : ℕ) : Type 0 where
-  pub rest : pdvs_ok most s ≡ rest_ok most (drop at s)
-  pub to : at ≤ length s
-
-same_sum : (k a b : ℕ) → eqb (k + a) (k + b) ≡ eqb a b
-same_sum k a b = go (eqb a b) refl
-  where
-    go : (d : Bool) → eqb a b ≡ d → eqb (k + a) (k + b) ≡ d
-    go true q = let e : a ≡ b = eqb-true _ _ q in eq-eqb (k + a) (k + b) (omega arith)
-    go false q = let n : (a ≡ b → ⊥) = eqb-false a b q in ne_eqb (k + a) (k + b) (λ e. n (omega arith))
-
-pub judge_none : (most : ℕ) (s : List ℕ) → length s ≡ 0 → false ≡ pdvs_ok most s
+pub judge_start : (most : ℕ) (s : List ℕ) → Judging most s 0 (pdvs s)
 unfolding pdvs_ok
-judge_none most s h = let e : pdvs s ≡ [] = pdv_over s 0 (omega arith) in rw e
-
-pub judge_start : (most : ℕ) (s : List ℕ) → (length s ≡ 0 → ⊥) → Judging most s 0
-unfolding pdvs_ok
-judge_start most s h = record { rest = go (pdvs s); to = omega arith }
+judge_start most s = let w = size_within (length s) s (omega arith) in record { rest = go (pdvs s) w; within = omega arith }
   where
-    go : (ps : List Pdv) → (leb 1 (length ps) && (eqb (size ps) (length s) && all (pdv_ok most) ps)) ≡ (eqb (size ps) (length s) && all (pdv_ok most) ps)
-    go [] = rw (ne_eqb 0 (length s) (λ e. h (sym e)))
-    go (p ∷ ps) = simp (le-leb 1 (length (p ∷ ps)) (omega arith))
+    go : (ps : List Pdv) → size ps ≤ length s
+        → (leb 1 (length ps) && (eqb (size ps) (length s) && all (pdv_ok most) ps)) ≡ (leb 1 (length s) && (eqb (0 + size ps) (length s) && all (pdv_ok most) ps))
+    go [] h = empty (length s)
+      where
+        empty : (n : ℕ) → false ≡ (leb 1 n && (eqb 0 n && true))
+        empty zero = refl
+        empty (suc n) = rw (ne_eqb 0 (suc n) (λ e. omega arith), and-false)
+    go (p ∷ ps) h = let z : 0 + size (p ∷ ps) ≡ size (p ∷ ps) = omega arith in rw (z, le-leb 1 (length (p ∷ ps)) (omega arith), le-leb 1 (length s) (omega arith))
 
-module _ (most : ℕ) (s : List ℕ) (at : ℕ) (v : Judging most s at) where
-  pub judge_end : length s ≤ at → true ≡ pdvs_ok most s
-  judge_end h =
-      let e : pdvs (drop at s) ≡ [] = pdv_over s at h in
-      let l : length (drop at s) ≡ 0 = length-drop at s ∙ (let z : length s - at ≡ 0 = omega arith in z) in
-      sym (v.rest ∙ rw (e, l))
+module _ (most : ℕ) (s : List ℕ) (taken : ℕ) (p : Pdv) (ps qs : List Pdv) (v : Judging most s taken qs) (e : qs ≡ p ∷ ps) where
+  pub judge_fits : taken + (6 + length p.fragment) ≤ length s
+  judge_fits = let w = v.within in let z = ap size e in omega arith
 
-  module _ (e : ℕ) (p : e ≡ pdv_end s at) where
-    pub judge_stop : e ≡ 0 → at < length s → false ≡ pdvs_ok most s
-    judge_stop z l =
-        let q : pdvs (drop at s) ≡ [] = pdv_stop s at e p z in
-        let n : length (drop at s) ≡ length s - at = length-drop at s in
-        sym (v.rest ∙ rw (q, ne_eqb 0 (length (drop at s)) (λ w. omega arith)))
+  pub judge_even : (p.id % 2 ≡ 1 → ⊥) → false ≡ pdvs_ok most s
+  unfolding pdv_ok
+  judge_even h = sym (v.rest ∙ rw (e, ne_eqb (p.id % 2) 1 h, and-false, and-false))
 
-    module _ (ne : e ≡ 0 → ⊥) where
-      -- one item further
-      onwards : rest_ok most (drop at s) ≡ (eqb (size (pdvs (drop e s))) (length (drop e s)) && (pdv_ok most (pdv_at s at e) && all (pdv_ok most) (pdvs (drop e s))))
-      onwards =
-          let i = pdv_more s at e p ne in
-          let d = length-drop at s in
-          let f = length-drop e s in
-          let m = length-drop (at + 6) s in
-          let t : length (take (e - (at + 6)) (drop (at + 6) s)) ≡ e - (at + 6) = length-take-le (e - (at + 6)) (drop (at + 6) s) (omega arith) in
-          let k : length (drop at s) ≡ (e - at) + length (drop e s) = omega arith in
-          let j : 6 + length (take (e - (at + 6)) (drop (at + 6) s)) + size (pdvs (drop e s)) ≡ (e - at) + size (pdvs (drop e s)) = omega arith in
-          rw (i.eq, j, k, same_sum (e - at) (size (pdvs (drop e s))) (length (drop e s)))
+  pub judge_control : most < p.control → false ≡ pdvs_ok most s
+  unfolding pdv_ok
+  judge_control h = sym (v.rest ∙ rw (e, lt-leb p.control most h, and-false, and-false, and-false))
 
-      pub judge_even : (get_or s (at + 4) 0 % 2 ≡ 1 → ⊥) → false ≡ pdvs_ok most s
-      unfolding pdv_ok
-      judge_even h = sym (v.rest ∙ (onwards ∙ (rw (ne_eqb (get_or s (at + 4) 0 % 2) 1 h) (and-false (eqb (size (pdvs (drop e s))) (length (drop e s)))))))
+  pub judge_more : p.id % 2 ≡ 1 → p.control ≤ most → Judging most s (taken + (6 + length p.fragment)) ps
+  unfolding pdv_ok
+  judge_more o h =
+      let w = v.within in
+      let z = ap size e in
+      let m : taken + (6 + length p.fragment + size ps) ≡ taken + (6 + length p.fragment) + size ps = omega arith in
+      record { rest = v.rest ∙ rw (e, eq-eqb (p.id % 2) 1 o, le-leb p.control most h, m); within = omega arith }
 
-      pub judge_control : get_or s (at + 4) 0 % 2 ≡ 1 → most < get_or s (at + 5) 0 → false ≡ pdvs_ok most s
-      unfolding pdv_ok
-      judge_control o h = sym (v.rest ∙ (onwards ∙ (rw (eq-eqb (get_or s (at + 4) 0 % 2) 1 o, lt-leb (get_or s (at + 5) 0) most h) (and-false (eqb (size (pdvs (drop e s))) (length (drop e s)))))))
-
-      pub judge_more : get_or s (at + 4) 0 % 2 ≡ 1 → get_or s (at + 5) 0 ≤ most → Judging most s e
-      unfolding pdv_ok
-      judge_more o h =
-          let i = pdv_more s at e p ne in
-          record { rest = v.rest ∙ (onwards ∙ rw (eq-eqb (get_or s (at + 4) 0 % 2) 1 o, le-leb (get_or s (at + 5) 0) most h)); to = omega arith }
-
--- the ways by themselves, for where a search that may count gives up
-pub ruleset judge_ways = (judge_none, judge_start, judge_end, judge_stop, judge_even, judge_control, judge_more)
-
-pub ruleset judge_laws = (judge_ways, parting)
+pub judge_end : (most : ℕ) (s : List ℕ) (taken : ℕ) (qs : List Pdv) → Judging most s taken qs → qs ≡ [] → pdvs_ok most s ≡ (leb 1 (length s) && eqb taken (length s))
+judge_end most s taken qs v e = let z : taken + 0 ≡ taken = omega arith in v.rest ∙ rw (e, z, and-true)

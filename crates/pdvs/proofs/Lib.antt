@@ -1,3 +1,4 @@
+pub mod EndLaws
 pub mod DataLaws
 pub mod Examples
 pub mod Agree

@@ -1,6 +1,6 @@
 -- "04H P-DATA-TF: one or more PDV items that fill it: four-byte length at least 2, odd ID, control byte (bit 0 command, bit 1 last; bits 2 to 7 not
 -- tested), fragment, perhaps empty."
-use Rattle.std.specs.Prelude.{ℕ, ◌+◌, ◌-◌, Bool, ◌&&◌, cond, List, [], ◌∷◌, ◌++◌, length, take, drop, get_or, leb, eqb}
+use Rattle.std.specs.Prelude.{ℕ, ◌+◌, ◌-◌, Bool, ◌&&◌, cond, List, [], ◌∷◌, ◌++◌, length, take, drop, get_or, leb, eqb, Option, None, Some}
 use Rattle.laws.specs.Lists.{all}
 use Rattle.laws.specs.Parts.{steps, part_end}
 use Rattle.octets.specs.Octets.{be32, four, odd}
@@ -48,3 +48,7 @@ pdvs_ok most s = leb 1 (length (pdvs s)) && (eqb (size (pdvs s)) (length s) && a
 -- the place behind the PDV item at a place, or 0 where none stands there
 abbrev pub pdv_end : List ℕ → ℕ → ℕ
 pdv_end s at = part_end 2 s at (be32 s at)
+
+-- the same as the code answers it: None where none stands there
+abbrev pub item_end : List ℕ → ℕ → Option ℕ
+item_end s at = cond (eqb (pdv_end s at) 0) None (Some (pdv_end s at))

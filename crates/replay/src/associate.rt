@@ -1,31 +1,7 @@
 // The words of an RQ or an AC that is to be written.
 use crate::words::Words;
-
-#[derive(Clone, Copy)]
-pub(crate) struct User<'a> {
-    pub(crate) class_uid: &'a [u8],
-    pub(crate) version_name: &'a [u8],
-    pub(crate) invoked: u16,
-    pub(crate) performed: u16,
-    pub(crate) roles: &'a [u8],
-}
-
-#[derive(Clone, Copy)]
-pub(crate) struct Request<'a> {
-    pub(crate) called: &'a [u8],
-    pub(crate) calling: &'a [u8],
-    pub(crate) application: &'a [u8],
-    pub(crate) user: User<'a>,
-    pub(crate) sheet: &'a [u8],
-}
-
-#[derive(Clone, Copy)]
-pub(crate) struct Accept<'a> {
-    pub(crate) echoed: &'a [u8],
-    pub(crate) application: &'a [u8],
-    pub(crate) user: User<'a>,
-    pub(crate) sheet: &'a [u8],
-}
+use user_items::User;
+use writing_associate::{Accept, Request};
 
 fn user_in<'a>(words: &mut Words<'a>) -> Option<User<'a>> {
     Some(User {

@@ -1,7 +1,7 @@
 // The host of the machine calls: the record and the two buffers, which stay from one machine call to the next.
 use crate::buffers::{BUFFER, Buffer, IN_GATHER, IN_OUTPUT};
 use crate::digits::decimal;
-use crate::print::print;
+use crate::print::{Numbers, print};
 use crate::words::Words;
 use association::{Answer, Assoc};
 
@@ -85,7 +85,7 @@ impl Host {
         self.assoc = assoc;
         print(
             rt,
-            &[
+            Numbers(&[
                 u64::from(told.refusal),
                 u64::from(told.action),
                 told.used as u64,
@@ -99,7 +99,7 @@ impl Host {
                 u64::from(assoc.peer_max),
                 self.gather.digest(),
                 self.out.digest(),
-            ],
+            ]),
         );
     }
 }

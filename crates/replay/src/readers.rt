@@ -1,9 +1,8 @@
 // The calls that read, judge or choose.
 use crate::buffers::{Buffer, IN_SHEET, SHEET};
-use crate::print::{print, print_with, yes_or_no};
+use crate::print::{Hex, Numbers, Told, print, yes_or_no};
 use crate::words::Words;
 use reading::Associate;
-use titles::Place;
 
 // K PDU
 pub(crate) fn kind(rt: &impl Print, mut words: Words) -> Option<()> {
@@ -11,11 +10,11 @@ pub(crate) fn kind(rt: &impl Print, mut words: Words) -> Option<()> {
     words.end()?;
     print(
         rt,
-        &[
+        Numbers(&[
             u64::from(judging::kind_of(pdu)),
             u64::from(judging::acceptable(pdu)),
             u64::from(judging::maximum_of(pdu)),
-        ],
+        ]),
     );
     Some(())
 }
@@ -23,7 +22,7 @@ pub(crate) fn kind(rt: &impl Print, mut words: Words) -> Option<()> {
 fn print_fields(rt: &impl Print, f: Associate, sheet: &Buffer<SHEET>, roles: &Buffer<SHEET>) {
     print(
         rt,
-        &[
+        Numbers(&[
             u64::from(f.refusal),
             u64::from(f.version),
             f.application_at as u64,
@@ -39,7 +38,7 @@ fn print_fields(rt: &impl Print, f: Associate, sheet: &Buffer<SHEET>, roles: &Bu
             f.roles as u64,
             sheet.digest(),
             roles.digest(),
-        ],
+        ]),
     );
 }
 
@@ -72,12 +71,12 @@ pub(crate) fn reject(rt: &impl Print, mut words: Words) -> Option<()> {
     let f = reading::read_reject(pdu);
     print(
         rt,
-        &[
+        Numbers(&[
             u64::from(f.refusal),
             u64::from(f.result),
             u64::from(f.source),
             u64::from(f.reason),
-        ],
+        ]),
     );
     Some(())
 }
@@ -89,11 +88,11 @@ pub(crate) fn abort(rt: &impl Print, mut words: Words) -> Option<()> {
     let f = reading::read_abort(pdu);
     print(
         rt,
-        &[
+        Numbers(&[
             u64::from(f.refusal),
             u64::from(f.source),
             u64::from(f.reason),
-        ],
+        ]),
     );
     Some(())
 }
@@ -111,7 +110,8 @@ pub(crate) fn data(rt: &impl Print, mut words: Words) -> Option<()> {
         f.start as u64,
         f.len as u64,
     ];
-    print_with(rt, &numbers, reading::fragment(pdu, number));
+    let fragment = reading::fragment(pdu, number);
+    let _ = println!(rt; "{} {}", Numbers(&numbers), Hex(fragment));
     Some(())
 }
 
@@ -123,13 +123,13 @@ pub(crate) fn pdv_at(rt: &impl Print, mut words: Words) -> Option<()> {
     let f = reading::pdv_at(pdu, at);
     print(
         rt,
-        &[
+        Numbers(&[
             u64::from(f.refusal),
             u64::from(f.id),
             u64::from(f.control),
             f.start as u64,
             f.len as u64,
-        ],
+        ]),
     );
     Some(())
 }
@@ -139,11 +139,11 @@ pub(crate) fn title_place(rt: &impl Print, mut words: Words) -> Option<()> {
     let own = words.bytes()?;
     let sought = words.bytes()?;
     words.end()?;
-    match titles::title_place(own, sought) {
-        Place::At(place) => print(rt, &[u64::from(numbers::NOT_REFUSED), 1, place as u64]),
-        Place::None => print(rt, &[u64::from(numbers::NOT_REFUSED), 0, 0]),
-        Place::Refused => print(rt, &[u64::from(numbers::BAD_CONTENTS), 0, 0]),
-    }
+    let found = titles::title_place(own, sought).map(|place| match place {
+        Some(place) => [1, place as u64],
+        None => [0, 0],
+    });
+    print(rt, Told(found));
     Some(())
 }
 
@@ -156,7 +156,7 @@ pub(crate) fn choose(rt: &impl Print, mut words: Words) -> Option<()> {
     let c = choosing::choose(proposal, site, sheet.lend());
     print(
         rt,
-        &[u64::from(c.refusal), c.records as u64, sheet.digest()],
+        Numbers(&[u64::from(c.refusal), c.records as u64, sheet.digest()]),
     );
     Some(())
 }

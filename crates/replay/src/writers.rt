@@ -1,9 +1,9 @@
 // The calls that write, into an output of OUTLEN bytes.
 use crate::associate::{accept_in, request_in};
 use crate::buffers::{BUFFER, Buffer, IN_OUTPUT};
-use crate::print::print;
+use crate::print::Told;
 use crate::words::Words;
-use writing::Sent;
+use numbers::Refusal;
 
 // The peer's maximum length for `4`: none.
 const NO_LIMIT: u32 = 0;
@@ -15,51 +15,27 @@ fn output(words: &mut Words) -> Option<Buffer<BUFFER>> {
     Some(out)
 }
 
-fn told(rt: &impl Print, sent: Sent, out: &Buffer<BUFFER>) -> Option<()> {
-    print(
-        rt,
-        &[u64::from(sent.refusal), sent.count as u64, out.digest()],
-    );
-    Some(())
+fn tell(rt: &impl Print, sent: Result<usize, Refusal>, out: &Buffer<BUFFER>) {
+    let count = sent.map(|count| [count as u64]);
+    let _ = println!(rt; "{} {}", Told(count), out.digest());
 }
 
 // 1 CALLED CALLING APPLICATION USER SHEET OUTLEN
 pub(crate) fn request(rt: &impl Print, mut words: Words) -> Option<()> {
-    let request = request_in(&mut words)?;
+    let fields = request_in(&mut words)?;
     let mut out = output(&mut words)?;
-    let user = request.user;
-    let sent = writing_associate::write_request(
-        request.called,
-        request.calling,
-        request.application,
-        user.class_uid,
-        user.version_name,
-        user.invoked,
-        user.performed,
-        user.roles,
-        request.sheet,
-        out.lend(),
-    );
-    told(rt, sent, &out)
+    let sent = writing_associate::write_request(fields, out.lend());
+    tell(rt, sent, &out);
+    Some(())
 }
 
 // 2 ECHOED APPLICATION USER SHEET OUTLEN
 pub(crate) fn accept(rt: &impl Print, mut words: Words) -> Option<()> {
-    let accept = accept_in(&mut words)?;
+    let fields = accept_in(&mut words)?;
     let mut out = output(&mut words)?;
-    let user = accept.user;
-    let sent = writing_associate::write_accept(
-        accept.echoed,
-        accept.application,
-        user.class_uid,
-        user.version_name,
-        user.invoked,
-        user.performed,
-        user.roles,
-        accept.sheet,
-        out.lend(),
-    );
-    told(rt, sent, &out)
+    let sent = writing_associate::write_accept(fields, out.lend());
+    tell(rt, sent, &out);
+    Some(())
 }
 
 // 3 RESULT SOURCE REASON OUTLEN
@@ -69,7 +45,8 @@ pub(crate) fn reject(rt: &impl Print, mut words: Words) -> Option<()> {
     let reason = words.byte()?;
     let mut out = output(&mut words)?;
     let sent = writing::write_reject(res, source, reason, out.lend());
-    told(rt, sent, &out)
+    tell(rt, sent, &out);
+    Some(())
 }
 
 // 4 ITEMS OUTLEN
@@ -77,21 +54,24 @@ pub(crate) fn data(rt: &impl Print, mut words: Words) -> Option<()> {
     let items = words.bytes()?;
     let mut out = output(&mut words)?;
     let sent = writing::write_data(items, NO_LIMIT, out.lend());
-    told(rt, sent, &out)
+    tell(rt, sent, &out);
+    Some(())
 }
 
 // 5 OUTLEN
 pub(crate) fn release_request(rt: &impl Print, mut words: Words) -> Option<()> {
     let mut out = output(&mut words)?;
     let sent = writing::write_release_request(out.lend());
-    told(rt, sent, &out)
+    tell(rt, sent, &out);
+    Some(())
 }
 
 // 6 OUTLEN
 pub(crate) fn release_response(rt: &impl Print, mut words: Words) -> Option<()> {
     let mut out = output(&mut words)?;
     let sent = writing::write_release_response(out.lend());
-    told(rt, sent, &out)
+    tell(rt, sent, &out);
+    Some(())
 }
 
 // 7 SOURCE REASON OUTLEN
@@ -100,5 +80,6 @@ pub(crate) fn abort(rt: &impl Print, mut words: Words) -> Option<()> {
     let reason = words.byte()?;
     let mut out = output(&mut words)?;
     let sent = writing::write_abort(source, reason, out.lend());
-    told(rt, sent, &out)
+    tell(rt, sent, &out);
+    Some(())
 }

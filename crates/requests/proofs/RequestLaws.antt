@@ -9,12 +9,15 @@ use lib.Dec.{eqb}
 use lib.ListN.{length}
 use borrow.Author.Rules.{rules}
 use borrow.Author.Tests.{eq-eqb, ne_eqb, eqb-true, eqb-false}
+use Rattle.std.specs.Prelude.{Result, Ok, Err}
+use Rattle.numbers.specs.declared.refusals.Refusal.{Refusal}
+use Rattle.numbers.specs.Refusals.{refusal_number}
+use Rattle.numbers.proofs.NumberLaws.{refusal_some}
 use Rattle.numbers.specs.Refusals.{NOT-REFUSED, BLANK-CELL, SHORT-OUTPUT, BAD-CONTENTS}
 use Rattle.laws.proofs.Refusals.{due_both}
 use Rattle.octets.specs.Put.{front, Placed}
 use Rattle.octets.proofs.PutLaws.{placed_put}
-use Rattle.writing.specs.declared.Sent.{Sent}
-use Rattle.writing.specs.Form.{form_tests, form_refusal, Wrote}
+use Rattle.writing.specs.Form.{Sent, sent, form_tests, form_refusal, Wrote}
 use Rattle.writing.specs.Ten.{ten_of, NO-TEN}
 use Rattle.writing.proofs.FormLaws.{refusal_is, refused_kept, sent_count, out_is, wrote_bad, wrote_short, wrote_fine}
 use Rattle.writing.proofs.TenLaws.{ten_length}
@@ -48,15 +51,15 @@ module _ (a : Assoc) (g : List ℕ) (action n : ℕ) (e : n ≡ record_refusal a
 pub ruleset gate_laws = (rules, gate_record, gate_blank, gate_open)
 
 -- ---- `finish`
-module _ (a : Assoc) (action : ℕ) (s : Sent) where
-  pub finish_refused : (r : Answer) → (s.refusal ≡ 0 → ⊥) → r ≡ refused_with s.refusal a → r ≡ finish_of a action s
+module _ (a : Assoc) (action : ℕ) (w : Result ℕ Refusal) where
+  pub finish_refused : (e : Refusal) (n : ℕ) (r : Answer) → w ≡ Err e → n ≡ refusal_number e → r ≡ refused_with n a → r ≡ finish_of a action (sent w)
   unfolding finish_of
-  finish_refused r n e = rw (ne_eqb s.refusal 0 n) e
+  finish_refused e n r h m q = rw (h, ne_eqb (refusal_number e) 0 (refusal_some e), ← m) q
 
-  pub finish_done : (n : Assoc) → s.refusal ≡ 0 → n ≡ leaving (after action (standing a) (brings_nothing (standing a))) a.gathered
-      → ◌≡◌ {A = Answer} (record { told = record { refusal = s.refusal; action = action; used = 0; sent = s.count; shown = 0 }; assoc = n }) (finish_of a action s)
+  pub finish_done : (k : ℕ) (n : Assoc) → w ≡ Ok k → n ≡ leaving (after action (standing a) (brings_nothing (standing a))) a.gathered
+      → ◌≡◌ {A = Answer} (record { told = record { refusal = NOT-REFUSED; action = action; used = 0; sent = k; shown = 0 }; assoc = n }) (finish_of a action (sent w))
   unfolding finish_of done_locally
-  finish_done n z e = rw (eq-eqb s.refusal 0 z, z, e)
+  finish_done k n h e = rw (h, e)
 
 pub ruleset finish_laws = (rules, finish_refused, finish_done)
 

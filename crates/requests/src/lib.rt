@@ -4,14 +4,16 @@
 ghost use Rattle.std.specs.Prelude.{◌≡◌};
 ghost use Rattle.user_items.specs.Sent.{user_of};
 ghost use Rattle.writing.specs.Fields.{rq_of, ac_of, reject_of, items_of};
-ghost use Rattle.writing.specs.Form.{Wrote};
+ghost use Rattle.writing.specs.Form.{Wrote, sent};
 ghost use Rattle.association.specs.Events.{carries as carriesOf, Local.plain, Local.confirm, Local.accept, Local.reject, Local.send};
 ghost use Rattle.association.specs.Machine.{plain_form};
 ghost use Rattle.association.specs.Calls.{call, local_of};
 ghost use Rattle.requests.specs.Private.Gates.{gate_refusal, finish_of};
 
 use association::{Answer, Assoc, Brings, Told};
-use writing::Sent;
+use numbers::Refusal;
+use user_items::User;
+use writing_associate::{Accept, Request};
 
 // What refuses a local event before its contents are looked at.
 fn gate(a: Assoc, gather: &[u8], action: u8) -> u8
@@ -28,14 +30,13 @@ fn gate(a: Assoc, gather: &[u8], action: u8) -> u8
 }
 
 // Refused by the writer of its PDU, or the action is done.
-fn finish(a: Assoc, action: u8, s: Sent) -> Answer
-    ensures { result ≡ finish_of a action s }
+fn finish(a: Assoc, action: u8, wrote: Result<usize, Refusal>) -> Answer
+    ensures { result ≡ finish_of a action (sent wrote) }
 {
-    let refusal = s.refusal;
-    let sent = s.count;
-    if refusal != numbers::NOT_REFUSED {
-        return association::refused(refusal, a);
-    }
+    let sent = match wrote {
+        Ok(count) => count,
+        Err(refusal) => return association::refused(refusal.number(), a),
+    };
     let b = Brings {
         accepts: false,
         peer_max: a.peer_max,
@@ -44,7 +45,7 @@ fn finish(a: Assoc, action: u8, s: Sent) -> Answer
     let assoc = association::after(action, a, b, a.gathered);
     Answer {
         told: Told {
-            refusal,
+            refusal: numbers::NOT_REFUSED,
             action,
             used: 0,
             sent,
@@ -68,27 +69,17 @@ fn carries(number: u8) -> bool
 }
 
 // Writes what the action of an event without contents sends by itself.
-fn write_plain(number: u8, action: u8, out: &mut [u8]) -> Sent
-    ensures { Wrote (plain_form number action) out.old result out.new }
+fn write_plain(number: u8, action: u8, out: &mut [u8]) -> Result<usize, Refusal>
+    ensures { Wrote (plain_form number action) out.old (sent result) out.new }
 {
     if carries(number) {
-        return Sent {
-            refusal: numbers::BAD_CONTENTS,
-            count: 0,
-        };
+        return Err(Refusal::BadContents);
     }
     let ten = association::ten_by(action, false, writing::NO_TEN);
     if out.len() < writing::ten_len(ten) {
-        return Sent {
-            refusal: numbers::SHORT_OUTPUT,
-            count: 0,
-        };
+        return Err(Refusal::ShortOutput);
     }
-    let count = writing::write_ten(ten, out);
-    Sent {
-        refusal: numbers::NOT_REFUSED,
-        count,
-    }
+    Ok(writing::write_ten(ten, out))
 }
 
 // A local event by its number, 1 to 19 in the row order of Table 9-10: one of the seven without contents.
@@ -126,18 +117,21 @@ pub fn confirm(
     if refusal != numbers::NOT_REFUSED {
         return association::refused(refusal, a);
     }
-    let sent = writing_associate::write_request(
-        called,
-        calling,
-        application,
+    let user = User {
         class_uid,
         version_name,
         invoked,
         performed,
         roles,
+    };
+    let fields = Request {
+        called,
+        calling,
+        application,
+        user,
         sheet,
-        out,
-    );
+    };
+    let sent = writing_associate::write_request(fields, out);
     finish(a, action, sent)
 }
 
@@ -162,17 +156,20 @@ pub fn accept(
     if refusal != numbers::NOT_REFUSED {
         return association::refused(refusal, a);
     }
-    let sent = writing_associate::write_accept(
-        echoed,
-        application,
+    let user = User {
         class_uid,
         version_name,
         invoked,
         performed,
         roles,
+    };
+    let fields = Accept {
+        echoed,
+        application,
+        user,
         sheet,
-        out,
-    );
+    };
+    let sent = writing_associate::write_accept(fields, out);
     finish(a, action, sent)
 }
 

@@ -1,25 +1,25 @@
 -- Laws of good records and sheets: each way through the tests, and that the records tested one by one give the rule over the roles.
 -- Assumes nothing.
-use Prim.Native.Nat.{ℕ, ◌+◌, ◌-◌, ◌%◌, ◌≤◌, ◌<◌}
+use Prim.Native.Nat.{ℕ, zero, suc, ◌+◌, ◌*◌, ◌/◌, ◌%◌, ◌≤◌, ◌<◌}
 use native.Mathlib.Omega.{arith}
-use mathlib.Core.Bool.{Bool, true, false, not, ◌&&◌}
+use mathlib.Core.Bool.{Bool, true, false, ◌&&◌}
 use mathlib.Core.List.{List, [], ◌∷◌, map}
 use mathlib.Core.Path.{◌≡◌, refl, sym, ap, ◌∙◌}
 use lib.ListN.{length, take, drop, get_or, length-drop}
-use lib.Seq.{take_all}
-use borrow.Author.Rules.{rules}
-use borrow.Author.Tests.{le-leb, lt-leb, eq-eqb, ne_eqb, not-true, not-false}
-use Rattle.laws.specs.Lists.{all, any, same_bytes, differ}
-use Rattle.laws.proofs.Places.{part_tail}
+use lib.Seq.{take_all, length-take-le}
+use lib.Dec.{eqb}
+use borrow.Author.Tests.{eq-eqb}
+use Rattle.std.specs.List.{list_all, list_any}
+use Rattle.std.specs.Simd.{first_chunks}
+use Rattle.laws.specs.Lists.{all, any, records, same_bytes, differ}
+use Rattle.laws.proofs.Library.{all_list, chunk_records}
 use Rattle.laws.proofs.Records.{rows_none, row_here}
-use Rattle.laws.proofs.Tests.{and_step, no_here, call_not, call_yes}
 use Rattle.sheets.specs.Sheet.{field_ok}
-use Rattle.sheets.proofs.GoodLaws.{name_yes, name_not, across, together}
 use Rattle.roles.specs.Role.{role_uid, role_ok, roles_ok}
 use Rattle.roles.specs.Sheet.{role_records, role_in, roles_in, unused_zero, role_sheet_ok}
 use Rattle.roles.specs.Record.{uid_at}
-use Rattle.roles.specs.Private.OneRecord.{record_ok, uids_in}
-use Rattle.roles.proofs.RecordLaws.{uid_here}
+use Rattle.roles.specs.Private.OneRecord.{record_ok}
+use Rattle.roles.proofs.RecordLaws.{uid_own}
 
 -- ---- the roles of a sheet, from a place on
 pub role_records_here : (s : List ℕ) (at : ℕ) → at + 68 ≤ length s → role_records (drop at s) ≡ take 68 (drop at s) ∷ role_records (drop (at + 68) s)
@@ -38,102 +38,82 @@ pub roles_none : (s : List ℕ) (at : ℕ) → length s < at + 68 → roles_in (
 unfolding roles_in
 roles_none s at h = rw (role_records_none s at h)
 
--- the UID of a record by itself
-pub uid_own : (r u : List ℕ) → length r ≡ 68 → u ≡ uid_at r 0 → u ≡ (role_in r).uid
-uid_own r u l e = e ∙ (uid_here r 0 (omega arith) ∙ ap (λ (m : List ℕ). (role_in m).uid) (take_all 68 r (omega arith)))
-
-pub uids_here : (s : List ℕ) (at : ℕ) → at + 68 ≤ length s → uids_in (drop at s) ≡ uid_at s at ∷ uids_in (drop (at + 68) s)
-unfolding uids_in
-uids_here s at h = rw (roles_here s at h, uid_here s at h)
-
-pub uids_none : (s : List ℕ) (at : ℕ) → length s < at + 68 → uids_in (drop at s) ≡ []
-unfolding uids_in
-uids_none s at h = rw (roles_none s at h)
-
--- ---- `record_ok`: its tests one by one
-module _ (r : List ℕ) where
-  pub unused_zero_so : (b : Bool) → get_or r 3 0 ≡ 0 → b ≡ field_ok (get_or r 0 0) (take (length r - 4) (drop 4 r)) → not b ≡ false → unused_zero r ≡ true
-  unfolding unused_zero
-  unused_zero_so b z q t = rw (eq-eqb _ _ z, ← part_tail 4 r, ← q) (not-false b t)
-
-  pub fourth_not : (get_or r 3 0 ≡ 0 → ⊥) → unused_zero r ≡ false
-  unfolding unused_zero
-  fourth_not n = rw (ne_eqb _ _ n)
-
-  pub unused_not : (b : Bool) → get_or r 3 0 ≡ 0 → b ≡ field_ok (get_or r 0 0) (take (length r - 4) (drop 4 r)) → not b ≡ true → unused_zero r ≡ false
-  unfolding unused_zero
-  unused_not b z q t = rw (eq-eqb _ _ z, ← part_tail 4 r, ← q) (not-true b t)
-
-pub ruleset one_laws = (and_step, no_here, call_not, call_yes, le-leb, lt-leb, unused_zero_so, fourth_not, unused_not, uid_own, name_yes, name_not, rules)
-
--- ---- `records_ok`
-module _ (s : List ℕ) (at : ℕ) (v : all record_ok (role_records (drop at s)) ≡ all record_ok (role_records s)) where
-  pub all_next : (x : List ℕ) (b : Bool) → 68 ≤ length s - at → x ≡ take 68 (drop at s) → b ≡ record_ok x → not b ≡ false → all record_ok (role_records (drop (at + 68) s)) ≡ all record_ok (role_records s)
-  all_next x b h e q t =
-      let g : record_ok (take 68 (drop at s)) ≡ true = ap record_ok (sym e) ∙ (sym q ∙ not-false b t) in
-      simp (role_records_here s at (omega arith), g) at v
-
-  pub all_bad : (x : List ℕ) (b : Bool) → 68 ≤ length s - at → x ≡ take 68 (drop at s) → b ≡ record_ok x → not b ≡ true → false ≡ all record_ok (role_records s)
-  all_bad x b h e q t =
-      let g : record_ok (take 68 (drop at s)) ≡ false = ap record_ok (sym e) ∙ (sym q ∙ not-true b t) in
-      simp (role_records_here s at (omega arith), g) at v
-
-  pub all_done : length s - at < 68 → true ≡ all record_ok (role_records s)
-  all_done h = simp (role_records_none s at (omega arith)) at v
-
-pub ruleset all_laws = (rules, all_next, all_bad, all_done)
-
--- ---- `uid_later`
-module _ (s u : List ℕ) (at : ℕ) (all : Bool) (v : all ≡ any (same_bytes u) (uids_in (drop at s))) where
-  module _ (x : List ℕ) (b : Bool) (h : 68 ≤ length s - at) (e : x ≡ uid_at s at) (q : b ≡ same_bytes u x) where
-    pub later_hit : b ≡ true → true ≡ all
-    later_hit t = sym (v ∙ rw (uids_here s at (omega arith), ← e, ← q, t))
-
-    pub later_next : b ≡ false → all ≡ any (same_bytes u) (uids_in (drop (at + 68) s))
-    later_next t = v ∙ rw (uids_here s at (omega arith), ← e, ← q, t)
-
-  pub later_done : length s - at < 68 → false ≡ all
-  later_done h = sym (v ∙ rw (uids_none s at (omega arith)))
-
-pub ruleset later_laws = (rules, later_hit, later_next, later_done)
+-- ---- `unused_zero`
+pub unused_rest : (r : List ℕ) (b : Bool) → length r ≡ 68 → get_or r 3 0 ≡ 0 → b ≡ field_ok (get_or r 0 0) (take 64 (drop 4 r)) → b ≡ unused_zero r
+unfolding unused_zero
+unused_rest r b l z q = let e = take_all 64 (drop 4 r) (omega (arith, length-drop 4 r)) in rw (← e) (q ∙ rw (eq-eqb _ _ z))
 
 -- ---- `uids_differ`
-module _ (s : List ℕ) (at : ℕ) (all : Bool) (v : all ≡ differ (uids_in (drop at s))) where
-  module _ (x : List ℕ) (b : Bool) (h : 68 ≤ length s - at) (e : x ≡ uid_at s at) (q : b ≡ any (same_bytes x) (uids_in (drop (at + 68) s))) where
-    pub apart_next : b ≡ false → all ≡ differ (uids_in (drop (at + 68) s))
-    unfolding differ
-    apart_next t = v ∙ rw (uids_here s at (omega arith), ← e, ← q, t)
+abbrev first_uid : List ℕ → List ℕ
+first_uid r = uid_at r 0
 
-    pub apart_bad : b ≡ true → false ≡ all
-    unfolding differ
-    apart_bad t = sym (v ∙ rw (uids_here s at (omega arith), ← e, ← q, t))
+any_uids : (u : List ℕ) (rs : List (List ℕ)) → list_any (λ r. same_bytes u (uid_at r 0)) rs ≡ any (same_bytes u) (map first_uid rs)
+any_uids u [] = refl
+any_uids u (r ∷ rs) = rw (any_uids u rs)
 
-  pub apart_done : length s - at < 68 → true ≡ all
+module _ (rest others : List (List ℕ)) (r u : List ℕ) (all b : Bool) (v : all ≡ differ (map first_uid rest)) (e : rest ≡ r ∷ others) (k : u ≡ uid_at r 0) (q : b ≡ list_any (λ o. same_bytes u (uid_at o 0)) others) where
+  others_have : any (same_bytes (uid_at r 0)) (map first_uid others) ≡ b
+  others_have = sym (q ∙ (any_uids u others ∙ ap (λ (w : List ℕ). any (same_bytes w) (map first_uid others)) k))
+
+  pub apart_next : b ≡ false → all ≡ differ (map first_uid others)
   unfolding differ
-  apart_done h = sym (v ∙ rw (uids_none s at (omega arith)))
+  apart_next t = v ∙ rw (e, others_have, t)
 
-pub ruleset apart_laws = (rules, apart_next, apart_bad, apart_done)
+  pub apart_bad : b ≡ true → false ≡ all
+  unfolding differ
+  apart_bad t = sym (v ∙ rw (e, others_have, t))
+
+pub apart_done : (rs : List (List ℕ)) (all : Bool) → all ≡ differ (map first_uid rs) → length rs ≡ 0 → true ≡ all
+unfolding differ
+apart_done [] all v h = sym v
+apart_done (r ∷ rs) all v h = absurd (omega arith)
 
 -- ---- `roles_ok`
+across : (a b c d : Bool) → ((a && b) && (c && d)) ≡ ((a && c) && (b && d))
+across true true c d = refl
+across true false true d = refl
+across true false false d = refl
+across false b c d = refl
+
+together : (p c d : Bool) → (p && (c && d)) ≡ ((p && c) && d)
+together true c d = refl
+together false c d = refl
 
 records_roles : (rs : List (List ℕ)) → all record_ok rs ≡ (all unused_zero rs && all role_ok (map role_in rs))
 unfolding record_ok
 records_roles [] = refl
 records_roles (r ∷ rs) = rw (records_roles rs) (across (unused_zero r) (role_ok (role_in r)) (all unused_zero rs) (all role_ok (map role_in rs)))
 
-sheet_is : (s : List ℕ) → length s % 68 ≡ 0 → role_sheet_ok s ≡ (all record_ok (role_records s) && differ (uids_in s))
-unfolding role_sheet_ok roles_ok roles_in uids_in
-sheet_is s m = rw (eq-eqb _ _ m, records_roles (role_records s)) (together (all unused_zero (role_records s)) (all role_ok (roles_in s)) (differ (map role_uid (roles_in s))))
+sheet_is : (s : List ℕ) → length s % 68 ≡ 0 → (all record_ok (role_records s) && differ (map role_uid (map role_in (role_records s)))) ≡ role_sheet_ok s
+unfolding role_sheet_ok roles_ok roles_in
+sheet_is s m = rw (eq-eqb _ _ m, records_roles (role_records s)) (sym (together (all unused_zero (role_records s)) (all role_ok (map role_in (role_records s))) (differ (map role_uid (map role_in (role_records s))))))
 
-pub sheet_part : (s : List ℕ) → (length s % 68 ≡ 0 → ⊥) → false ≡ role_sheet_ok s
+pub sheet_part : (s : List ℕ) (n : ℕ) (b : Bool) → n ≡ length s % 68 → b ≡ eqb n 0 → b ≡ false → b ≡ role_sheet_ok s
 unfolding role_sheet_ok
-sheet_part s n = simp (ne_eqb _ _ n)
+sheet_part s n b e q t = rw (← e, ← q, t)
 
-module _ (s : List ℕ) (m : length s % 68 ≡ 0) (b : Bool) (q : b ≡ all record_ok (role_records s)) where
-  pub sheet_bad : not b ≡ true → false ≡ role_sheet_ok s
-  sheet_bad t = sym (sheet_is s m ∙ simp (sym q ∙ not-true b t))
+-- the UIDs of whole records
+uids_are : (n : ℕ) (s : List ℕ) → n * 68 ≤ length s → map first_uid (records 68 n s) ≡ map role_uid (map role_in (records 68 n s))
+uids_are zero s h = refl
+uids_are (suc n) s h =
+    let e : uid_at (take 68 s) 0 ≡ (role_in (take 68 s)).uid = uid_own (take 68 s) (length-take-le 68 s (omega arith)) in
+    let i = uids_are n (drop 68 s) (omega (arith, length-drop 68 s)) in
+    λ j. e j ∷ i j
 
-  pub sheet_rest : (d : Bool) → not b ≡ false → d ≡ differ (uids_in s) → d ≡ role_sheet_ok s
-  sheet_rest d t e = e ∙ sym (sheet_is s m ∙ simp (sym q ∙ not-false b t))
+-- by the answers of the calls: b of the tests of each, d of the UIDs
+module _ (s : List ℕ) (rs : List (List ℕ)) (f : rs ≡ first_chunks 68 (length s / 68) s) (m : length s % 68 ≡ 0) (b : Bool) (q : b ≡ list_all record_ok rs) where
+  records_are : rs ≡ role_records s
+  unfolding role_records
+  records_are = f ∙ chunk_records 68 (length s / 68) s
 
-pub ruleset sheet_laws = (rules, sheet_part, sheet_bad, sheet_rest)
+  each_is : all record_ok (role_records s) ≡ b
+  each_is = sym (q ∙ (all_list record_ok rs ∙ ap (all record_ok) records_are))
+
+  pub sheet_bad : b ≡ false → b ≡ role_sheet_ok s
+  sheet_bad t = t ∙ (sym (rw (each_is, t)) ∙ sheet_is s m)
+
+  pub sheet_rest : (d : Bool) → b ≡ true → d ≡ differ (map first_uid rs) → d ≡ role_sheet_ok s
+  unfolding role_records
+  sheet_rest d t e =
+      let i : map first_uid rs ≡ map role_uid (map role_in (role_records s)) = ap (map first_uid) records_are ∙ uids_are (length s / 68) s (omega arith) in
+      e ∙ (ap differ i ∙ (sym (rw (each_is, t)) ∙ sheet_is s m))

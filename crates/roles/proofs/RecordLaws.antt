@@ -7,15 +7,15 @@ use mathlib.Core.Bool.{Bool, true, false, cond}
 use mathlib.Core.List.{List, [], ◌∷◌, ◌++◌, append-nil}
 use mathlib.Core.Path.{◌≡◌, sym, ap, ◌∙◌}
 use lib.ListN.{length, take, drop, get_or, set, replicate, length-drop}
-use lib.Seq.{take_all, take-take, take-add, drop-drop, drop_at, length-take-le, get_or-take, get_or-drop}
+use lib.Seq.{take_all, drop-drop}
 use lib.Dec.{leb}
 use borrow.Author.Rules.{rules}
 use borrow.Author.Tests.{le-leb, lt-leb}
 use Rattle.octets.specs.Put.{Placed}
 use Rattle.octets.proofs.PutLaws.{put_out}
 use Rattle.octets.proofs.SliceLaws.{place_from}
-use Rattle.sheets.specs.Sheet.{field, cap}
-use Rattle.sheets.proofs.RecordLaws.{name_put, cut_fits, cut_short, cut_at, field_length}
+use Rattle.sheets.specs.Sheet.{field, cap, name_in}
+use Rattle.sheets.proofs.RecordLaws.{name_put, cut_fits, cut_short, cut_at, field_length, in_record, byte_here}
 use Rattle.roles.specs.Role.{Role}
 use Rattle.roles.specs.Sheet.{role_bytes, role_in}
 use Rattle.roles.specs.Record.{record_of, uid_at, uid_start}
@@ -45,31 +45,15 @@ record_whole r h = let e = take_all 64 r.uid h in λ i. role_bytes (record { uid
 
 -- ---- `uid_at`
 
--- the name in a record, as bytes of the sheet
-in_record : (n b k : ℕ) (l : List ℕ) → n ≤ k → b ≤ length l → take n (drop b (take (b + k) l)) ≡ take n (drop b l)
-in_record n b k l h g = ap (take n) (ap (drop b) (take-add b k l) ∙ drop_at (take b l) (take k (drop b l)) b (length-take-le b l g)) ∙ take-take n k (drop b l) h
-
--- a byte of the record at a place
-pub byte_here : (s : List ℕ) (at j : ℕ) → j < 68 → get_or (take 68 (drop at s)) j 0 ≡ get_or s (at + j) 0
-byte_here s at j h = get_or-take 68 (drop at s) j 0 h ∙ get_or-drop at s j 0
-
 module _ (s : List ℕ) (at : ℕ) where
   -- none stands there
-  pub from_none : length s < 68 → 0 ≡ uid_start s at
+  pub from_none : length s < at + 68 → 0 ≡ uid_start s at
   unfolding uid_start
-  from_none h = simp (lt-leb (at + 68) (length s) (omega arith))
+  from_none h = simp (lt-leb (at + 68) (length s) h)
 
-  pub from_past : 68 ≤ length s → length s - 68 < at → 0 ≡ uid_start s at
-  unfolding uid_start
-  from_past h l = simp (lt-leb (at + 68) (length s) (omega arith))
-
-  pub uid_none : length s < 68 → take (0 - 0) (drop 0 s) ≡ uid_at s at
+  pub uid_none : length s < at + 68 → [] ≡ uid_at s at
   unfolding uid_at
-  uid_none h = simp (lt-leb (at + 68) (length s) (omega arith))
-
-  pub uid_past : 68 ≤ length s → length s - 68 < at → take (0 - 0) (drop 0 s) ≡ uid_at s at
-  unfolding uid_at
-  uid_past h k = simp (lt-leb (at + 68) (length s) (omega arith))
+  uid_none h = simp (lt-leb (at + 68) (length s) h)
 
   module _ (h : 68 ≤ length s) (l : at ≤ length s - 68) where
     pub from_here : at + 4 ≡ uid_start s at
@@ -79,9 +63,9 @@ module _ (s : List ℕ) (at : ℕ) where
     pub uid_found : (n : ℕ) → n ≡ cap (get_or s at 0) → n ≤ 64 → take (at + 4 + n - (at + 4)) (drop (at + 4) s) ≡ uid_at s at
     unfolding uid_at role_in
     uid_found n e k =
-        rw (add-sub_cancel_left, le-leb (at + 68) (length s) (omega arith), byte_here s at 0 (omega arith), add-zero, ← e, ← drop-drop 4 at s) (sym (in_record n 4 64 (drop at s) k (omega (arith, length-drop at s))))
+        rw (add-sub_cancel_left, le-leb (at + 68) (length s) (omega arith), byte_here 68 s at 0 (omega arith), add-zero, ← e, ← drop-drop 4 at s) (sym (in_record n 4 64 (drop at s) k (omega (arith, length-drop at s))))
 
-pub ruleset uid_laws = (rules, from_none, from_past, uid_none, uid_past, from_here, uid_found, place_from)
+pub ruleset uid_laws = (rules, from_none, uid_none, from_here, uid_found, place_from)
 
 -- ---- the role at a place
 pub uid_here : (s : List ℕ) (at : ℕ) → at + 68 ≤ length s → uid_at s at ≡ (role_in (take 68 (drop at s))).uid
@@ -92,9 +76,17 @@ pub role_here : (s : List ℕ) (at : ℕ) → at + 68 ≤ length s → role_in (
 unfolding role_in
 role_here s at h =
     let u = sym (uid_here s at h) in
-    let a = byte_here s at 1 (omega arith) in
-    let b = byte_here s at 2 (omega arith) in
+    let a = byte_here 68 s at 1 (omega arith) in
+    let b = byte_here 68 s at 2 (omega arith) in
     λ i. record { uid = u i; scu = a i; scp = b i }
+
+-- a record by itself
+pub uid_own : (r : List ℕ) → length r ≡ 68 → uid_at r 0 ≡ (role_in r).uid
+uid_own r l = uid_here r 0 (omega arith) ∙ ap (λ (m : List ℕ). (role_in m).uid) (take_all 68 r (omega arith))
+
+pub uid_first : (r : List ℕ) → length r ≡ 68 → uid_at r 0 ≡ name_in 0 4 r
+unfolding role_in
+uid_first = uid_own
 
 -- a UID that a record gives fits its field
 pub uid_most : (r : List ℕ) → length (role_in r).uid ≤ 64

@@ -23,8 +23,7 @@ use Rattle.reading.proofs.read_request as read-request
 use Rattle.reading.proofs.read_accept as read-accept
 use Rattle.user_items.specs.Sent.{User}
 use Rattle.writing.specs.Fields.{reject_of, items_of, abort_of}
-use Rattle.writing.specs.Form.{Form, form_refusal, sent_bytes, sent_of, Wrote, rq_form, ac_form, reject_form, data_form, release_rq_form, release_rp_form, abort_form}
-use Rattle.writing.specs.declared.Sent.{Sent}
+use Rattle.writing.specs.Form.{Sent, sent, Form, form_refusal, sent_bytes, sent_of, Wrote, rq_form, ac_form, reject_form, data_form, release_rq_form, release_rp_form, abort_form}
 use Rattle.writing.proofs.FormLaws.{refusal_is}
 use Rattle.round_trips.specs.Trips.{read_of, AssociateTrip, RqTrip, AcTrip, RejectTrip, DataTrip, AbortTrip}
 use Rattle.round_trips.specs.Calls.{WriteRequest, request_given, request_out, WriteAccept, accept_given, accept_out, WriteReject, WriteData, WriteReleaseRequest, WriteReleaseResponse, WriteAbort, ReadAssociate, bytes_written, Judged, StartsWith, SameFields, ReadBack, RequestBack, AcceptBack, RejectBack, AbortBack, DataBack}
@@ -78,12 +77,12 @@ part_is s r pdu n g p a b =
     }
 
 -- ---- the seven
-pub request_call : (c : WriteRequest) → c.answer.refusal ≡ 0 → RequestBack (request_given c) (bytes_written c.answer (request_out c))
+pub request_call : (c : WriteRequest) → (sent c.answer).refusal ≡ 0 → RequestBack (request_given c) (bytes_written (sent c.answer) (request_out c))
 request_call c z =
     let f = request_given c in
-    let o = c.given.1.1.1.1.1.1.1.1.1.0.now in
-    let pdu = bytes_written c.answer (request_out c) in
-    let t = holds (rq_form f) o c.answer (request_out c) c.permitted (RqTrip f) (sent_rq (length o) f) z in
+    let o = c.given.1.0.now in
+    let pdu = bytes_written (sent c.answer) (request_out c) in
+    let t = holds (rq_form f) o (sent c.answer) (request_out c) c.permitted (RqTrip f) (sent_rq (length o) f) z in
     record {
       kind = judged pdu 1 t.kind;
       called = t.called;
@@ -91,32 +90,32 @@ request_call c z =
       read = read_back 1 read-request.Reads.Post (λ d. d.permitted) f.application f.user f.sheet pdu t.fields;
     }
 
-pub accept_call : (c : WriteAccept) → c.answer.refusal ≡ 0 → AcceptBack (accept_given c) (bytes_written c.answer (accept_out c))
+pub accept_call : (c : WriteAccept) → (sent c.answer).refusal ≡ 0 → AcceptBack (accept_given c) (bytes_written (sent c.answer) (accept_out c))
 accept_call c z =
     let f = accept_given c in
-    let o = c.given.1.1.1.1.1.1.1.1.0.now in
-    let pdu = bytes_written c.answer (accept_out c) in
-    let t = holds (ac_form f) o c.answer (accept_out c) c.permitted (AcTrip f) (sent_ac (length o) f) z in
+    let o = c.given.1.0.now in
+    let pdu = bytes_written (sent c.answer) (accept_out c) in
+    let t = holds (ac_form f) o (sent c.answer) (accept_out c) c.permitted (AcTrip f) (sent_ac (length o) f) z in
     record {
       kind = judged pdu 2 t.kind;
       echoed = t.echoed;
       read = read_back 2 read-accept.Reads.Post (λ d. d.permitted) f.application f.user f.sheet pdu t.fields;
     }
 
-pub reject_call : (c : WriteReject) → c.answer.refusal ≡ 0 → RejectBack (reject_of c.given.0 c.given.1.0 c.given.1.1.0) (bytes_written c.answer c.left.1.1.1.0.now)
+pub reject_call : (c : WriteReject) → (sent c.answer).refusal ≡ 0 → RejectBack (reject_of c.given.0 c.given.1.0 c.given.1.1.0) (bytes_written (sent c.answer) c.left.1.1.1.0.now)
 reject_call c z =
     let f = reject_of c.given.0 c.given.1.0 c.given.1.1.0 in
     let o = c.given.1.1.1.0.now in
-    let pdu = bytes_written c.answer c.left.1.1.1.0.now in
-    let t = holds (reject_form f) o c.answer c.left.1.1.1.0.now c.permitted (RejectTrip f) (sent_reject (length o) f) z in
+    let pdu = bytes_written (sent c.answer) c.left.1.1.1.0.now in
+    let t = holds (reject_form f) o (sent c.answer) c.left.1.1.1.0.now c.permitted (RejectTrip f) (sent_reject (length o) f) z in
     record { kind = judged pdu 3 t.kind; read = λ d g. d.permitted ∙ (ap values.reject_in g ∙ t.read) }
 
-pub data_call : (c : WriteData) → c.answer.refusal ≡ 0 → DataBack (pdvs c.given.0.now) (bytes_written c.answer c.left.1.1.0.now)
+pub data_call : (c : WriteData) → (sent c.answer).refusal ≡ 0 → DataBack (pdvs c.given.0.now) (bytes_written (sent c.answer) c.left.1.1.0.now)
 data_call c z =
     let f = items_of c.given.0.now in
     let o = c.given.1.1.0.now in
-    let pdu = bytes_written c.answer c.left.1.1.0.now in
-    let t = holds (data_form c.given.1.0 f) o c.answer c.left.1.1.0.now c.permitted (DataTrip f) (sent_data (length o) c.given.1.0 f) z in
+    let pdu = bytes_written (sent c.answer) c.left.1.1.0.now in
+    let t = holds (data_form c.given.1.0 f) o (sent c.answer) c.left.1.1.0.now c.permitted (DataTrip f) (sent_data (length o) c.given.1.0 f) z in
     record {
       kind = judged pdu 4 t.kind;
       read = λ d g. d.permitted ∙ (ap (λ (x : List ℕ). data_of x d.given.1.0) g ∙ t.read d.given.1.0);
@@ -124,24 +123,24 @@ data_call c z =
     }
 
 -- items that are the bytes of PDVs: these PDVs
-pub pdvs_call : (ps : List Pdv) → all pdv_fits ps ≡ true → (c : WriteData) → c.given.0.now ≡ joined (map pdv_bytes ps) → c.answer.refusal ≡ 0
-    → DataBack ps (bytes_written c.answer c.left.1.1.0.now)
+pub pdvs_call : (ps : List Pdv) → all pdv_fits ps ≡ true → (c : WriteData) → c.given.0.now ≡ joined (map pdv_bytes ps) → (sent c.answer).refusal ≡ 0
+    → DataBack ps (bytes_written (sent c.answer) c.left.1.1.0.now)
 pdvs_call ps h c g z = let e : pdvs c.given.0.now ≡ ps = ap pdvs g ∙ pdvs_of_bytes ps h in rw e at (data_call c z)
 
-pub release_request_call : (c : WriteReleaseRequest) → c.answer.refusal ≡ 0 → Judged (bytes_written c.answer c.left.0.now) 5
+pub release_request_call : (c : WriteReleaseRequest) → (sent c.answer).refusal ≡ 0 → Judged (bytes_written (sent c.answer) c.left.0.now) 5
 release_request_call c z =
     let o = c.given.0.now in
-    judged (bytes_written c.answer c.left.0.now) 5 (holds release_rq_form o c.answer c.left.0.now c.permitted (λ (x : List ℕ). kind_of x ≡ 5) (sent_release_rq (length o)) z)
+    judged (bytes_written (sent c.answer) c.left.0.now) 5 (holds release_rq_form o (sent c.answer) c.left.0.now c.permitted (λ (x : List ℕ). kind_of x ≡ 5) (sent_release_rq (length o)) z)
 
-pub release_response_call : (c : WriteReleaseResponse) → c.answer.refusal ≡ 0 → Judged (bytes_written c.answer c.left.0.now) 6
+pub release_response_call : (c : WriteReleaseResponse) → (sent c.answer).refusal ≡ 0 → Judged (bytes_written (sent c.answer) c.left.0.now) 6
 release_response_call c z =
     let o = c.given.0.now in
-    judged (bytes_written c.answer c.left.0.now) 6 (holds release_rp_form o c.answer c.left.0.now c.permitted (λ (x : List ℕ). kind_of x ≡ 6) (sent_release_rp (length o)) z)
+    judged (bytes_written (sent c.answer) c.left.0.now) 6 (holds release_rp_form o (sent c.answer) c.left.0.now c.permitted (λ (x : List ℕ). kind_of x ≡ 6) (sent_release_rp (length o)) z)
 
-pub abort_call : (c : WriteAbort) → c.answer.refusal ≡ 0 → AbortBack (abort_of c.given.0 c.given.1.0) (bytes_written c.answer c.left.1.1.0.now)
+pub abort_call : (c : WriteAbort) → (sent c.answer).refusal ≡ 0 → AbortBack (abort_of c.given.0 c.given.1.0) (bytes_written (sent c.answer) c.left.1.1.0.now)
 abort_call c z =
     let f = abort_of c.given.0 c.given.1.0 in
     let o = c.given.1.1.0.now in
-    let pdu = bytes_written c.answer c.left.1.1.0.now in
-    let t = holds (abort_form f) o c.answer c.left.1.1.0.now c.permitted (AbortTrip f) (sent_abort (length o) f) z in
+    let pdu = bytes_written (sent c.answer) c.left.1.1.0.now in
+    let t = holds (abort_form f) o (sent c.answer) c.left.1.1.0.now c.permitted (AbortTrip f) (sent_abort (length o) f) z in
     record { kind = judged pdu 7 t.kind; read = λ d g. d.permitted ∙ (ap values.abort_in g ∙ t.read) }

@@ -17,14 +17,15 @@ use Rattle.reading.proofs.read_reject as read-reject
 use Rattle.reading.proofs.read_abort as read-abort
 use Rattle.reading.proofs.read_data as read-data
 use Rattle.reading.proofs.fragment as fragment
-use Rattle.user_items.specs.Sent.{User, user_of}
-use Rattle.writing.specs.Fields.{RqFields, AcFields, Reject, Abort, rq_of, ac_of}
-use Rattle.writing.specs.declared.Sent.{Sent}
+use Rattle.user_items.specs.Sent.{User}
+use Rattle.writing.specs.Fields.{RqFields, AcFields, Reject, Abort}
+use Rattle.writing.specs.Form.{Sent}
 use Rattle.writing.proofs.write_reject as write-reject
 use Rattle.writing.proofs.write_data as write-data
 use Rattle.writing.proofs.write_release_request as write-release-request
 use Rattle.writing.proofs.write_release_response as write-release-response
 use Rattle.writing.proofs.write_abort as write-abort
+use Rattle.writing_associate.specs.Said.{rq_said, ac_said}
 use Rattle.writing_associate.proofs.write_request as write-request
 use Rattle.writing_associate.proofs.write_accept as write-accept
 use Rattle.round_trips.specs.Trips.{read_of, pdv_read}
@@ -38,32 +39,26 @@ pub record Permitted (n : ℕ) (ps : List (ParamKind n)) (r : ResultKind n) (Pos
   pub permitted : Post lifetimes given answer left
 
 -- ---- the calls, each with the places of its arguments
--- called, calling, application, class_uid, version_name, invoked, performed, roles, sheet, out
+-- the contents, out
 abbrev pub WriteRequest : Type 0
-WriteRequest = Permitted 8 write-request.Kinds.ps write-request.Kinds.r write-request.Reads.Post
+WriteRequest = Permitted 2 write-request.Kinds.ps write-request.Kinds.r write-request.Reads.Post
 
 -- the contents that it was given, and what it left in the output
 abbrev pub request_given : WriteRequest → RqFields
-request_given c =
-    rq_of c.given.0.now c.given.1.0.now c.given.1.1.0.now
-    (user_of c.given.1.1.1.0.now c.given.1.1.1.1.0.now c.given.1.1.1.1.1.0 c.given.1.1.1.1.1.1.0 c.given.1.1.1.1.1.1.1.0.now)
-    c.given.1.1.1.1.1.1.1.1.0.now
+request_given c = rq_said c.given.0
 
 abbrev pub request_out : WriteRequest → List ℕ
-request_out c = c.left.1.1.1.1.1.1.1.1.1.0.now
+request_out c = c.left.1.0.now
 
--- echoed, application, class_uid, version_name, invoked, performed, roles, sheet, out
+-- the contents, out
 abbrev pub WriteAccept : Type 0
-WriteAccept = Permitted 7 write-accept.Kinds.ps write-accept.Kinds.r write-accept.Reads.Post
+WriteAccept = Permitted 2 write-accept.Kinds.ps write-accept.Kinds.r write-accept.Reads.Post
 
 abbrev pub accept_given : WriteAccept → AcFields
-accept_given c =
-    ac_of c.given.0.now c.given.1.0.now
-    (user_of c.given.1.1.0.now c.given.1.1.1.0.now c.given.1.1.1.1.0 c.given.1.1.1.1.1.0 c.given.1.1.1.1.1.1.0.now)
-    c.given.1.1.1.1.1.1.1.0.now
+accept_given c = ac_said c.given.0
 
 abbrev pub accept_out : WriteAccept → List ℕ
-accept_out c = c.left.1.1.1.1.1.1.1.1.0.now
+accept_out c = c.left.1.0.now
 
 -- result, source, reason, out
 abbrev pub WriteReject : Type 0

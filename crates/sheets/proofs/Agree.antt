@@ -12,6 +12,7 @@ use Rattle.sheets.proofs.record.cap_of as cap-of
 use Rattle.sheets.proofs.record.abstract_at as abstract-at
 use Rattle.sheets.proofs.record.transfer_at as transfer-at
 use Rattle.sheets.proofs.record.goes_on as goes_on
+use Rattle.sheets.proofs.record.same_run as same-run
 
 pub proposal_ok_agrees : Agrees 1 proposal-ok.Kinds.ps proposal-ok.Kinds.r proposal-ok.Reads.Post
 proposal_ok_agrees κs args a b x y p q = agree p q
@@ -33,6 +34,9 @@ cut_agrees κs args a b x y p q = parts_agree p q
 
 pub record_of_agrees : Agrees 2 record_of.Kinds.ps record_of.Kinds.r record_of.Reads.Post
 record_of_agrees κs args a b x y p q = agree p q
+
+pub same_run_agrees : Agrees 2 same-run.Kinds.ps same-run.Kinds.r same-run.Reads.Post
+same_run_agrees κs args a b x y p q = agree p q
 
 pub goes_on_agrees : Agrees 1 goes_on.Kinds.ps goes_on.Kinds.r goes_on.Reads.Post
 goes_on_agrees κs args a b x y p q = agree p q

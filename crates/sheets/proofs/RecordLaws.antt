@@ -1,24 +1,22 @@
 -- Laws of one record: made of its names, and looked at where it stands in a sheet.
 -- Assumes nothing.
-use Prim.Native.Nat.{ℕ, zero, suc, ◌+◌, ◌-◌, ◌≤◌, ◌<◌}
+use Prim.Native.Nat.{ℕ, zero, suc, ◌+◌, ◌-◌, ◌≤◌, ◌<◌, min}
 use native.Mathlib.Omega.{arith}
 use native.Mathlib.Nat.{add-sub_cancel_left, sub-zero}
 use mathlib.Core.Bool.{Bool, true, false, cond}
 use mathlib.Core.List.{List, [], ◌∷◌, ◌++◌, append_assoc, append-nil}
 use mathlib.Core.Path.{◌≡◌, refl, sym, ap, ◌∙◌}
 use lib.ListN.{length, take, drop, get_or, set, replicate, length-append, length-replicate, length-take, length-drop, replicate-append-replicate}
-use lib.Seq.{take_at, drop-append-add, length-take-le, take_all}
+use lib.Seq.{take_at, drop_at, take-take, take-add, drop-drop, drop-append-add, length-take-le, take_all, get_or-take, get_or-drop}
 use lib.Dec.{leb}
 use borrow.Author.Rules.{rules}
-use borrow.Author.Tests.{le-leb, lt-leb, eq-eqb, ne_eqb, leb-true}
+use borrow.Author.Tests.{le-leb, lt-leb, eq-eqb, ne_eqb, leb-true, leb-false}
 use Rattle.laws.specs.Lists.{same_bytes}
-use denote.Ref.{Bor}
 use Rattle.octets.specs.Put.{put, Placed}
-use Rattle.octets.specs.Slice.{PartOf}
 use Rattle.octets.proofs.PutLaws.{put_out, put_length}
-use Rattle.octets.proofs.SliceLaws.{part_of_part, place_from}
-use Rattle.sheets.specs.Sheet.{field, record_bytes, cap, name_in, abstract_of, transfer_of}
-use Rattle.sheets.specs.Record.{record_of, record_at, name_at, abstract_at, transfer_at, name_start, goes_on_at}
+use Rattle.octets.proofs.SliceLaws.{place_from}
+use Rattle.sheets.specs.Sheet.{field, record_bytes, record_id, cap, name_in, abstract_of, transfer_of}
+use Rattle.sheets.specs.Record.{record_of, record_at, name_at, abstract_at, transfer_at, name_start, same_run}
 
 -- ---- `fill_record`: names put into zeros
 
@@ -67,8 +65,12 @@ record_done id result a x m r i j e f h l =
 pub ruleset fill_laws = (rules, record_done)
 
 -- ---- `cut`, `record_of`
-pub cut_whole : (n : List ℕ) → length n ≤ 64 → n ≡ take 64 n
-cut_whole n h = sym (take_all 64 n h)
+pub cut_is : (n : List ℕ) (k : ℕ) → k ≡ min (length n) 64 → take k n ≡ take 64 n
+cut_is n k e = go (leb (length n) 64) refl
+  where
+    go : (b : Bool) → leb (length n) 64 ≡ b → take k n ≡ take 64 n
+    go true q = let h = leb-true (length n) 64 q in take_all k n (omega arith) ∙ sym (take_all 64 n h)
+    go false q = let h = leb-false (length n) 64 q in let i : k ≡ 64 = omega arith in rw i
 
 pub cut_short : (n : List ℕ) → length (take 64 n) ≤ 64
 cut_short n = omega (arith, length-take 64 n)
@@ -77,11 +79,7 @@ cut_short n = omega (arith, length-take 64 n)
 pub cut_fits : (n c : List ℕ) → c ≡ take 64 n → length c ≤ 64
 cut_fits n c e = rw e (cut_short n)
 
--- the whole name starts where it starts
-pub cut_from : (o : ℕ) → o ≡ o + 0
-cut_from o = omega arith
-
-pub ruleset cut_laws = (rules, cut_whole, cut_from, place_from)
+pub ruleset cut_laws = (rules, cut_is)
 
 pub record_is : (id result : ℕ) (a x b y r : List ℕ) → b ≡ take 64 a → y ≡ take 64 x → r ≡ record_bytes id result b y → r ≡ record_of id result a x
 unfolding record_of
@@ -99,22 +97,20 @@ pub cap_low : (n : ℕ) → n ≤ 64 → n ≡ cap n
 unfolding cap
 cap_low n h = simp (le-leb n 64 h)
 
-pub cap_high : (n : ℕ) → 64 < n → 64 ≡ cap n
+pub cap_is : (n k : ℕ) → k ≡ min n 64 → k ≡ cap n
 unfolding cap
-cap_high n h = simp (lt-leb n 64 h)
+cap_is n k e = go (leb n 64) refl
+  where
+    go : (b : Bool) → leb n 64 ≡ b → k ≡ cond b n 64
+    go true q = let h = leb-true n 64 q in omega arith
+    go false q = let h = leb-false n 64 q in omega arith
 
-pub ruleset cap_laws = (rules, cap_low, cap_high)
+-- the name in a record of k bytes, and a byte of it, as bytes of the sheet
+pub in_record : (n b k : ℕ) (l : List ℕ) → n ≤ k → b ≤ length l → take n (drop b (take (b + k) l)) ≡ take n (drop b l)
+in_record n b k l h g = ap (take n) (ap (drop b) (take-add b k l) ∙ drop_at (take b l) (take k (drop b l)) b (length-take-le b l g)) ∙ take-take n k (drop b l) h
 
-pub name_is : (l b : ℕ) (r : List ℕ) (n : ℕ) → n ≡ cap (get_or r l 0) → take (b + n - b) (drop b r) ≡ name_in l b r
-name_is l b r n e = rw (add-sub_cancel_left, e)
-
-pub part_is : (s : List ℕ) (at n : ℕ) → take (at + n - at) (drop at s) ≡ take n (drop at s)
-part_is s at n = rw add-sub_cancel_left
-
-pub part_long : (s : List ℕ) (at n : ℕ) → at + n ≤ length s → length (take (at + n - at) (drop at s)) ≡ n
-part_long s at n h = rw add-sub_cancel_left (length-take-le n (drop at s) (omega (arith, length-drop at s)))
-
-pub ruleset part_laws = (rules, part_is, part_long, name_is)
+pub byte_here : (k : ℕ) (s : List ℕ) (at j : ℕ) → j < k → get_or (take k (drop at s)) j 0 ≡ get_or s (at + j) 0
+byte_here k s at j h = get_or-take k (drop at s) j 0 h ∙ get_or-drop at s j 0
 
 -- a name that a record gives fits its field
 pub cap_most : (n : ℕ) → cap n ≤ 64
@@ -159,47 +155,47 @@ module _ (s : List ℕ) (at : ℕ) where
   transfer_here h = simp (le-leb (at + 132) (length s) h)
 
   -- none stands there
-  pub start_none : (k : ℕ) → length s < 132 → 0 ≡ name_start s at k
+  pub start_none : (k : ℕ) → length s < at + 132 → 0 ≡ name_start s at k
   unfolding name_start
-  start_none k h = simp (lt-leb (at + 132) (length s) (omega arith))
+  start_none k h = simp (lt-leb (at + 132) (length s) h)
 
-  pub start_past : (k : ℕ) → 132 ≤ length s → length s - 132 < at → 0 ≡ name_start s at k
-  unfolding name_start
-  start_past k h l = simp (lt-leb (at + 132) (length s) (omega arith))
-
-  pub name_none : (l b : ℕ) → length s < 132 → take (0 - 0) (drop 0 s) ≡ name_at l b s at
+  pub name_none : (l b : ℕ) → length s < at + 132 → [] ≡ name_at l b s at
   unfolding name_at
-  name_none l b h = simp (lt-leb (at + 132) (length s) (omega arith))
+  name_none l b h = simp (lt-leb (at + 132) (length s) h)
 
-  pub name_past : (l b : ℕ) → 132 ≤ length s → length s - 132 < at → take (0 - 0) (drop 0 s) ≡ name_at l b s at
-  unfolding name_at
-  name_past l b h k = simp (lt-leb (at + 132) (length s) (omega arith))
+  module _ (h : 132 ≤ length s) (k : at ≤ length s - 132) where
+    pub start_here : (b : ℕ) → at + b ≡ name_start s at b
+    unfolding name_start
+    start_here b = simp (le-leb (at + 132) (length s) (omega arith))
 
--- a name of a whole record, as a part of the record's own part
-pub name_found : (s r x : Bor (List ℕ)) (l b at : ℕ) → 132 ≤ length s.now → at ≤ length s.now - 132 → PartOf s at (record_at s.now at) r
-    → PartOf r b (name_in l b r.now) x → PartOf s (name_start s.now at b) (name_at l b s.now at) x
-unfolding name_start name_at
-name_found s r x l b at h k e p = rw (le-leb (at + 132) (length s.now) (omega arith), ← e.bytes) (part_of_part e p)
+    pub name_found : (l b n : ℕ) → l < 4 → b ≤ 68 → n ≡ cap (get_or s (at + l) 0) → n ≤ 64 → take (at + b + n - (at + b)) (drop (at + b) s) ≡ name_at l b s at
+    unfolding name_at
+    name_found l b n i j e m =
+        let q : 132 ≡ b + (132 - b) = omega arith in
+        rw (add-sub_cancel_left, le-leb (at + 132) (length s) (omega arith), byte_here 132 s at l (omega arith), ← e, ← drop-drop b at s)
+        (sym (ap (λ (w : ℕ). take n (drop b (take w (drop at s)))) q ∙ in_record n b (132 - b) (drop at s) (omega arith) (omega (arith, length-drop at s))))
 
-pub ruleset at_laws = (rules, name_none, name_past, start_none, start_past, place_from, name_found)
+pub ruleset at_laws = (rules, start_none, name_none, start_here, name_found, place_from)
 
--- ---- `goes_on`
-module _ (s : List ℕ) (at : ℕ) where
-  pub on_short : length s < 264 → false ≡ goes_on_at s at
-  unfolding goes_on_at
-  on_short h = simp (lt-leb (at + 132 + 132) (length s) (omega arith))
+-- ---- a record by itself
+module _ (r : List ℕ) (h : length r ≡ 132) where
+  whole : record_at r 0 ≡ r
+  whole = take_all 132 r (omega arith)
 
-  pub on_past : 264 ≤ length s → length s - 264 < at → false ≡ goes_on_at s at
-  unfolding goes_on_at
-  on_past h l = simp (lt-leb (at + 132 + 132) (length s) (omega arith))
+  pub abstract_first : abstract_at r 0 ≡ abstract_of r
+  abstract_first = abstract_here r 0 (omega arith) ∙ ap abstract_of whole
 
-  module _ (h : 264 ≤ length s) (l : at ≤ length s - 264) where
-    pub on_other : (get_or s at 0 ≡ get_or s (at + 132) 0 → ⊥) → false ≡ goes_on_at s at
-    unfolding goes_on_at
-    on_other n = simp (le-leb (at + 132 + 132) (length s) (omega arith), ne_eqb _ _ n)
+  pub transfer_first : transfer_at r 0 ≡ transfer_of r
+  transfer_first = transfer_here r 0 (omega arith) ∙ ap transfer_of whole
 
-    pub on_same : (a b : List ℕ) (d : Bool) → get_or s at 0 ≡ get_or s (at + 132) 0 → a ≡ abstract_at s at → b ≡ abstract_at s (at + 132) → d ≡ same_bytes a b → d ≡ goes_on_at s at
-    unfolding goes_on_at
-    on_same a b d i p q t = t ∙ (rw (p, q) (simp (le-leb (at + 132 + 132) (length s) (omega arith), eq-eqb _ _ i)))
+-- ---- `same_run`, `goes_on`
+module _ (r q : List ℕ) where
+  pub same_not : (record_id r ≡ record_id q → ⊥) → false ≡ same_run r q
+  unfolding same_run
+  same_not n = simp (ne_eqb _ _ n)
 
-pub ruleset on_laws = (rules, on_short, on_past, on_other, on_same)
+  pub same_names : (a b : List ℕ) (d : Bool) → length r ≡ 132 → length q ≡ 132 → record_id r ≡ record_id q → a ≡ abstract_at r 0 → b ≡ abstract_at q 0 → d ≡ same_bytes a b → d ≡ same_run r q
+  unfolding same_run
+  same_names a b d h l i e f t = t ∙ rw (e, f, abstract_first r h, abstract_first q l) (simp (eq-eqb _ _ i))
+
+pub ruleset same_laws = (rules, same_not, same_names)

@@ -2,7 +2,7 @@
 use Rattle.std.specs.Prelude.{ℕ, ◌+◌, Bool, false, ◌&&◌, cond, List, [], length, take, drop, get_or, leb, eqb}
 use Rattle.laws.specs.Lists.{same_bytes}
 use Rattle.numbers.specs.Lengths.{RECORD}
-use Rattle.sheets.specs.Sheet.{record_bytes, name_in}
+use Rattle.sheets.specs.Sheet.{record_bytes, name_in, record_id, abstract_of}
 
 -- a record with these names; of a name longer than its field the first 64 bytes
 unfoldable pub record_of : ℕ → ℕ → List ℕ → List ℕ → List ℕ
@@ -24,6 +24,10 @@ transfer_at s at = name_at 3 68 s at
 -- where the name that stands k bytes into that record starts in the sheet, 0 where no whole record stands there
 unfoldable pub name_start : List ℕ → ℕ → ℕ → ℕ
 name_start s at k = cond (leb (at + RECORD) (length s)) (at + k) 0
+
+-- two records behind one another are of one run: "equal ID and abstract name"
+unfoldable pub same_run : List ℕ → List ℕ → Bool
+same_run r next = eqb (record_id r) (record_id next) && same_bytes (abstract_of r) (abstract_of next)
 
 -- the record behind the one at a place goes on its run: "equal ID and abstract name"
 unfoldable pub goes_on_at : List ℕ → ℕ → Bool

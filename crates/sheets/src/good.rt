@@ -1,198 +1,123 @@
 // Whether a sheet may be sent as a proposal or as an answer, or kept by a site.
-ghost use Rattle.std.specs.Prelude.{◌≡◌, ◌%◌, length};
-ghost use Rattle.laws.specs.Lists.{all};
+ghost use Rattle.std.specs.Prelude.{◌≡◌, ◌<◌, ◌%◌, MatchOption, length};
 ghost use Rattle.sheets.specs.Contexts.{transfer_name_ok};
-ghost use Rattle.sheets.specs.Sheet.{records_of, zero?, field_ok, fields_ok, proposes as proposesIn, named as named_in, proposal_record, site_record, proposal_ok, answers_ok, site_ok};
-ghost use Rattle.sheets.specs.Private.OneRecord.{answer_record, record_ok, sheet_ok};
+ghost use Rattle.sheets.specs.Sheet.{records_of, field_ok, fields_ok, proposes as proposesIn, answers as answersIn, named as named_in, proposal_record, site_record, proposal_ok, answers_ok, site_ok};
+ghost use Rattle.sheets.specs.Private.OneRecord.{answer_record};
 
 use crate::ids::{ids_differ, runs_differ};
-use crate::record::{name_in, record_at};
-
-// What a sheet is to be.
-#[derive(Clone, Copy)]
-enum Kind {
-    Proposal,
-    Answer,
-    Site,
-}
-
-fn zeros(s: &[u8]) -> bool
-    ensures { result ≡ all zero? s.now }
-{
-    let mut i = 0;
-    while i < s.len() {
-        if s[i] != 0 {
-            return false;
-        }
-        i += 1;
-    }
-    true
-}
+use crate::record::{abstract_at, transfer_at};
+use numbers::RECORD;
 
 // Whether the field behind a name of n bytes is unused.
+#[tactic(auto, unfolding(crate::specs::Sheet::field_ok))]
 pub fn field_ok(n: u8, f: &[u8]) -> bool
     ensures { result ≡ field_ok n f.now }
 {
-    if 64 < n {
-        return false;
-    }
-    let k = n as usize;
-    if f.len() < k {
-        return true;
-    }
-    zeros(&f[k..])
+    n <= 64 && f.iter().skip(n as usize).all(|b| *b == 0)
 }
 
-fn fields_ok(r: &[u8]) -> bool
-    requires { length r.now ≡ 132 }
+#[tactic(auto, unfolding(crate::specs::Sheet::fields_ok))]
+fn fields_ok(r: &[u8; RECORD]) -> bool
     ensures { result ≡ fields_ok r.now }
 {
-    if !field_ok(r[2], &r[4..68]) {
-        return false;
-    }
-    field_ok(r[3], &r[68..])
+    field_ok(r[2], &r[4..68]) && field_ok(r[3], &r[68..])
 }
 
 // Result 0, and no unused byte that is not zero.
-fn proposes(r: &[u8]) -> bool
-    requires { length r.now ≡ 132 }
+#[tactic(auto, unfolding(crate::specs::Sheet::proposes))]
+fn proposes(r: &[u8; RECORD]) -> bool
     ensures { result ≡ proposesIn r.now }
 {
-    if r[1] != 0 {
-        return false;
-    }
-    fields_ok(r)
+    r[1] == 0 && fields_ok(r)
 }
 
 // Both names.
-fn named(r: &[u8]) -> bool
-    requires { length r.now ≡ 132 }
+#[tactic(auto, using(crate::proofs::RecordLaws::abstract_first, crate::proofs::RecordLaws::transfer_first))]
+fn named(r: &[u8; RECORD]) -> bool
     ensures { result ≡ named_in r.now }
 {
-    if !names::name_ok(name_in(2, 4, r)) {
-        return false;
-    }
-    names::name_ok(name_in(3, 68, r))
+    names::name_ok(abstract_at(r, 0)) && names::name_ok(transfer_at(r, 0))
 }
 
-fn proposal_record(r: &[u8]) -> bool
-    requires { length r.now ≡ 132 }
+#[tactic(auto, unfolding(crate::specs::Sheet::proposal_record))]
+fn proposal_record(r: &[u8; RECORD]) -> bool
     ensures { result ≡ proposal_record r.now }
 {
-    if !proposes(r) {
-        return false;
-    }
-    if r[0] % 2 != 1 {
-        return false;
-    }
-    named(r)
+    proposes(r) && (r[0] % 2 == 1 && named(r))
 }
 
 // Whether the transfer name goes with the result: none with one that refuses.
+#[tactic(auto, unfolding(crate::specs::Contexts::transfer_name_ok), using(crate::proofs::GoodLaws::no_name))]
 fn transfer_name_ok(res: u8, x: &[u8]) -> bool
     ensures { result ≡ transfer_name_ok res x.now }
 {
-    if res != numbers::ACCEPTED {
-        return x.len() == 0;
+    if res == numbers::ACCEPTED {
+        names::name_ok(x)
+    } else {
+        x.is_empty()
     }
-    names::name_ok(x)
 }
 
-fn answer_record(r: &[u8]) -> bool
-    requires { length r.now ≡ 132 }
+// No abstract name, and no unused byte that is not zero.
+#[tactic(auto, unfolding(crate::specs::Sheet::answers))]
+fn answers(r: &[u8; RECORD]) -> bool
+    ensures { result ≡ answersIn r.now }
+{
+    r[2] == 0 && fields_ok(r)
+}
+
+#[tactic(auto, unfolding(crate::specs::Private::OneRecord::answer_record, crate::specs::Contexts::answered_ok, crate::specs::Sheet::answered_of), using(crate::proofs::RecordLaws::transfer_first))]
+fn answer_record(r: &[u8; RECORD]) -> bool
     ensures { result ≡ answer_record r.now }
 {
-    if r[2] != 0 {
-        return false;
-    }
-    if !fields_ok(r) {
-        return false;
-    }
-    if r[0] % 2 != 1 {
-        return false;
-    }
-    if 4 < r[1] {
-        return false;
-    }
-    transfer_name_ok(r[1], name_in(3, 68, r))
+    answers(r) && (r[0] % 2 == 1 && (r[1] <= 4 && transfer_name_ok(r[1], transfer_at(r, 0))))
 }
 
-fn site_record(r: &[u8]) -> bool
-    requires { length r.now ≡ 132 }
+#[tactic(auto, unfolding(crate::specs::Sheet::site_record))]
+fn site_record(r: &[u8; RECORD]) -> bool
     ensures { result ≡ site_record r.now }
 {
-    if !proposes(r) {
-        return false;
-    }
-    if r[0] != 0 {
-        return false;
-    }
-    named(r)
+    proposes(r) && (r[0] == 0 && named(r))
 }
 
-// Whether the record may stand in a sheet of this kind.
-fn record_ok(kind: Kind, r: &[u8]) -> bool
-    requires { length r.now ≡ 132 }
-    ensures { result ≡ record_ok kind r.now }
+// The records of a sheet: one or more, and no part record.
+#[tactic(auto, unfolding(crate::specs::Sheet::records_of), using(laws::proofs::Library::chunk_records))]
+fn records(s: &[u8]) -> Option<&[[u8; RECORD]]>
+    ensures { MatchOption result (length s.now % 132 ≡ 0 → length s.now ≡ 0) (λ rs. (rs.now ≡ records_of s.now) × (length s.now % 132 ≡ 0) × (0 < length rs.now)) }
 {
-    match kind {
-        Kind::Proposal => proposal_record(r),
-        Kind::Answer => answer_record(r),
-        Kind::Site => site_record(r),
+    let (records, rest) = s.as_chunks();
+    if records.is_empty() || !rest.is_empty() {
+        return None;
     }
-}
-
-fn records_ok(kind: Kind, s: &[u8]) -> bool
-    requires { length s.now % 132 ≡ 0 }
-    ensures { result ≡ all (record_ok kind) (records_of s.now) }
-{
-    let mut at = 0;
-    while at < s.len() {
-        if !record_ok(kind, record_at(s, at)) {
-            return false;
-        }
-        at += numbers::RECORD;
-    }
-    true
-}
-
-// Whether it is a good sheet of this kind.
-fn sheet_ok(kind: Kind, s: &[u8]) -> bool
-    ensures { result ≡ sheet_ok kind s.now }
-{
-    if s.len() == 0 {
-        return false;
-    }
-    if s.len() % numbers::RECORD != 0 {
-        return false;
-    }
-    if !records_ok(kind, s) {
-        return false;
-    }
-    match kind {
-        Kind::Proposal => runs_differ(s),
-        Kind::Answer => ids_differ(s),
-        Kind::Site => true,
-    }
+    Some(records)
 }
 
 // Whether a proposal of these contexts may be sent.
 pub fn proposal_ok(s: &[u8]) -> bool
     ensures { result ≡ proposal_ok s.now }
 {
-    sheet_ok(Kind::Proposal, s)
+    let Some(rs) = records(s) else {
+        return false;
+    };
+    rs.iter().all(proposal_record) && runs_differ(rs)
 }
 
 // Whether these answers may be sent.
 pub fn answers_ok(s: &[u8]) -> bool
     ensures { result ≡ answers_ok s.now }
 {
-    sheet_ok(Kind::Answer, s)
+    let Some(rs) = records(s) else {
+        return false;
+    };
+    rs.iter().all(answer_record) && ids_differ(rs)
 }
 
 // Whether a site may keep this sheet: the syntaxes that it takes, best liked first.
 pub fn site_ok(s: &[u8]) -> bool
     ensures { result ≡ site_ok s.now }
 {
-    sheet_ok(Kind::Site, s)
+    let Some(rs) = records(s) else {
+        return false;
+    };
+    rs.iter().all(site_record)
 }

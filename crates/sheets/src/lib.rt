@@ -6,4 +6,4 @@ mod ids;
 mod record;
 
 pub use good::{answers_ok, field_ok, proposal_ok, site_ok};
-pub use record::{abstract_at, cap_of, cut, goes_on, record_of, transfer_at};
+pub use record::{abstract_at, cap_of, cut, goes_on, record_of, same_run, transfer_at};

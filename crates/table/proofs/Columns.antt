@@ -1,7 +1,7 @@
 -- The columns of the actions' table: the code's constant of 28 next states, each its action's, by computation; AE-6 and AR-8, which are decided beside it; and what
 -- the actions do to the timer, show and send.
 -- Assumes nothing.
-use Prim.Native.Nat.{ℕ, zero, suc, ◌-◌, ◌≤◌, ◌<◌}
+use Prim.Native.Nat.{ℕ, zero, suc, ◌<◌}
 use mathlib.Core.Path.{◌≡◌, refl, sym, ◌∙◌, ap}
 use mathlib.Core.Bool.{Bool, true, false, cond, not, ◌||◌}
 use mathlib.Core.List.{List, [], ◌∷◌, map}
@@ -56,16 +56,9 @@ pub next_column : Column nexts (λ a. next_of a false false)
 unfolding nexts next_of does_of actions
 next_column a = get_d_map (λ (d : Does). d.next) (actions false false) a (does_of 0 false false)
 
--- ---- the three ways through the look-up
-module _ (l : List ℕ) (a : ℕ) where
-  pub at_none : a < 1 → 0 ≡ get_or (0 ∷ l) a 0
-  at_none h = let e : a ≡ 0 = omega arith in rw e
-
-  pub at_past : length l ≡ 28 → 28 < a → 0 ≡ get_or (0 ∷ l) a 0
-  at_past n h = sym (get_or-eq_default (0 ∷ l) 0 {n = a} (omega (arith, n)))
-
-  pub at_place : (w : ℕ) → w ≡ a → 1 ≤ a → get_or l (w - 1) 0 ≡ get_or (0 ∷ l) a 0
-  at_place w e h = let q : suc (w - 1) ≡ a = omega arith in ap (λ (k : ℕ). get_or (0 ∷ l) k 0) q
+-- ---- past the last action
+at_past : (l : List ℕ) (a : ℕ) → length l ≡ 28 → 28 < a → 0 ≡ get_or (0 ∷ l) a 0
+at_past l a n h = sym (get_or-eq_default (0 ∷ l) 0 {n = a} (omega (arith, n)))
 
 -- ---- a column that is 0 at all actions but those of a list
 module _ (l ks : List ℕ) where
@@ -183,8 +176,6 @@ module _ (a : ℕ) (p : Bool) where
       none : 0 ≡ get_or (0 ∷ sendings) a 0
       none = bare sendings (2 ∷ 6 ∷ 7 ∷ 8 ∷ 9 ∷ 11 ∷ 14 ∷ 17 ∷ 19 ∷ 21 ∷ 27 ∷ 28 ∷ []) _ refl a
           (simp (ne_eqb a 2 b, ne_eqb a 6 h, ne_eqb a 7 c, ne_eqb a 8 d, ne_eqb a 9 e, ne_eqb a 11 f, ne_eqb a 14 g, ne_eqb a 17 i, ne_eqb a 19 j, ne_eqb a 21 k, ne_eqb a 27 l, ne_eqb a 28 m))
-
-pub ruleset at_laws = (rules, at_none, at_past, at_place)
 
 pub ruleset next_laws = (rules, accepting, rejecting, as_requestor, as_acceptor, next_other)
 

@@ -1,4 +1,4 @@
-// The numbers of the 19 events, in the row order of Table 9-10.
+// The numbers of the 19 events, in the row order of Table 9-10. Numbers and no enum: cell and is_received take any number, and their clauses speak of those that are no event's too.
 pub const ASSOCIATE_REQUEST: u8 = 1;
 
 pub const TRANSPORT_CONFIRM: u8 = 2;

@@ -7,6 +7,7 @@ mod sent;
 
 ghost use Rattle.std.specs.Prelude.{◌≡◌, ◌+◌, ◌-◌, ◌*◌, ◌≤◌, ◌<◌, false, ◌∷◌, get_or};
 ghost use Rattle.table.specs.Actions.{does_of, next_of, shows_of, artim_of, sends_number};
+ghost use Rattle.table.specs.Sent.{sent_number};
 ghost use Rattle.table.specs.Table.{cell_of, is_received};
 
 pub use actions::{
@@ -19,10 +20,7 @@ pub use events::{
     RELEASE_RESPONSE, RELEASE_RP_RECEIVED, RELEASE_RQ_RECEIVED, RJ_RECEIVED, RQ_RECEIVED,
     TRANSPORT_CLOSED, TRANSPORT_CONFIRM, TRANSPORT_INDICATION,
 };
-pub use sent::{
-    SENDS_ABORT_PROVIDER, SENDS_ABORT_USER, SENDS_CONTENTS, SENDS_NOTHING, SENDS_REJECT_VERSION,
-    SENDS_RELEASE_RP, SENDS_RELEASE_RQ,
-};
+pub use sent::Sends;
 
 // The actions' numbers (0a DT-2, 14 AR-10, 15 to 1c AA-1 to AA-8): a line to an event, 1 to 19, of states 1 to 13.
 const CELLS: [u8; 247] = *b"\
@@ -46,25 +44,20 @@ const CELLS: [u8; 247] = *b"\
     \x00\x16\x00\x00\x00\x00\x00\x00\x00\x00\x00\x00\x16\
     \x00\x15\x1c\x00\x1c\x1c\x1c\x1c\x1c\x1c\x1c\x1c\x1b";
 
-// The next states of AE-1 to AE-8, of DT-1 and DT-2, of AR-1 to AR-10 and of AA-1 to AA-8; of AE-6 when it rejects, of AR-8 for the acceptor.
-const NEXTS: [u8; 28] = *b"\
+// The next states of AE-1 to AE-8, of DT-1 and DT-2, of AR-1 to AR-10 and of AA-1 to AA-8; of AE-6 when it rejects, of AR-8 for the acceptor. Place 0 is no action's.
+const NEXTS: [u8; 29] = *b"\
+    \x00\
     \x04\x05\x06\x01\x02\x0d\x06\x0d\
     \x06\x06\
     \x07\x08\x01\x0d\x01\x07\x08\x0a\x0b\x0c\
     \x0d\x01\x01\x01\x01\x0d\x0d\x0d";
-
-fn wide(x: u8) -> usize
-    ensures { result ≡ x }
-{
-    x as usize
-}
 
 // The place of a cell in the constant.
 fn place(event: u8, state: u8) -> usize
     requires { (1 ≤ event) × ((event < 20) × ((1 ≤ state) × (state < 14))) }
     ensures { (result ≡ (event - 1) * 13 + (state - 1)) × (result < 247) }
 {
-    (wide(event) - 1) * 13 + (wide(state) - 1)
+    (usize::from(event) - 1) * 13 + (usize::from(state) - 1)
 }
 
 // The action at an event in a state; 0 at a blank cell, and outside the table.
@@ -87,20 +80,6 @@ pub fn cell(event: u8, state: u8) -> u8
     CELLS[at]
 }
 
-// An action's entry of a column; 0 where there is no such action.
-fn at(column: [u8; 28], action: u8) -> u8
-    ensures { result ≡ get_or (0 ∷ column) action 0 }
-{
-    if action < 1 {
-        return 0;
-    }
-    if 28 < action {
-        return 0;
-    }
-    let place = wide(action) - 1;
-    column[place]
-}
-
 // The state after an action: `accepts` is asked at AE-6 and `requestor` at AR-8. 0 where there is no such action.
 pub fn next_state(action: u8, accepts: bool, requestor: bool) -> u8
     ensures { result ≡ next_of action accepts requestor }
@@ -117,7 +96,7 @@ pub fn next_state(action: u8, accepts: bool, requestor: bool) -> u8
         }
         return 10;
     }
-    at(NEXTS, action)
+    NEXTS.get(usize::from(action)).copied().unwrap_or(0)
 }
 
 // Whether the ARTIM timer runs after an action, where it did or did not before.
@@ -155,29 +134,29 @@ pub fn shows(action: u8, accepts: bool) -> bool
     }
 }
 
-// What an action sends.
-pub fn sends(action: u8, accepts: bool) -> u8
-    ensures { result ≡ sends_number (does_of action accepts false).sends }
+// What an action sends: a line for each that sends, as Tables 9-6 to 9-9 have one.
+pub fn sends(action: u8, accepts: bool) -> Sends
+    ensures { sent_number result ≡ sends_number (does_of action accepts false).sends }
 {
     if action == AE_6 {
         if accepts {
-            return SENDS_NOTHING;
+            return Sends::Nothing;
         }
-        return SENDS_REJECT_VERSION;
+        return Sends::RejectVersion;
     }
     match action {
-        AE_2 => SENDS_CONTENTS,
-        AE_7 => SENDS_CONTENTS,
-        AE_8 => SENDS_CONTENTS,
-        DT_1 => SENDS_CONTENTS,
-        AR_1 => SENDS_RELEASE_RQ,
-        AR_4 => SENDS_RELEASE_RP,
-        AR_7 => SENDS_CONTENTS,
-        AR_9 => SENDS_RELEASE_RP,
-        AA_1 => SENDS_ABORT_USER,
-        AA_7 => SENDS_ABORT_PROVIDER,
-        AA_8 => SENDS_ABORT_PROVIDER,
-        _ => SENDS_NOTHING,
+        AE_2 => Sends::Contents,
+        AE_7 => Sends::Contents,
+        AE_8 => Sends::Contents,
+        DT_1 => Sends::Contents,
+        AR_1 => Sends::ReleaseRq,
+        AR_4 => Sends::ReleaseRp,
+        AR_7 => Sends::Contents,
+        AR_9 => Sends::ReleaseRp,
+        AA_1 => Sends::AbortUser,
+        AA_7 => Sends::AbortProvider,
+        AA_8 => Sends::AbortProvider,
+        _ => Sends::Nothing,
     }
 }
 

@@ -19,8 +19,7 @@ use Rattle.laws.proofs.Same.{same_means}
 use Rattle.titles.specs.Title.{titles_equal, trim}
 use Rattle.titles.specs.Own.{titles, list_ok, title_refusal, known, title_place, Checked, refusal, known_as, place_as}
 use Rattle.titles.specs.Meaning.{EqualAt, FirstAt, NoneEqual, Tells, TellsBy}
-use Rattle.titles.specs.declared.own.Place.{Place}
-use Rattle.titles.specs.declared.own.Place.TheVariants.{At, None, Refused}
+use Rattle.titles.specs.Own.{Place, Place.At, Place.None, Place.Refused}
 
 -- the list is good, and the sought title has 16 bytes
 abbrev Taken : List ℕ → List ℕ → Type 0

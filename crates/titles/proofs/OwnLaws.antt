@@ -13,9 +13,12 @@ use Rattle.laws.specs.Lists.{all, first_place, records}
 use Rattle.laws.proofs.Found.{first_some, first_none}
 use Rattle.laws.proofs.Records.{records_step, records_over, records_count}
 use Rattle.titles.specs.Title.{title_ok, titles_equal}
-use Rattle.titles.specs.Own.{titles, list_ok, title_refusal, known, title_place, Checked, refusal, known_as, place_as}
-use Rattle.titles.specs.declared.own.Place.{Place}
-use Rattle.titles.specs.declared.own.Place.TheVariants.{At, None, Refused}
+use Rattle.titles.specs.Own.{titles, list_ok, title_refusal, known, title_place, Checked}
+use Rattle.std.specs.Prelude.{Option, None, Some, Result, Ok}
+use Rattle.numbers.specs.declared.refusals.Refusal.{Refusal}
+use Rattle.numbers.specs.Refusals.{refusal_in}
+use Rattle.numbers.proofs.NumberLaws.{answer_once}
+use Rattle.titles.specs.Answer.{known_in, place_in}
 
 -- ---- whether all are good. b is what the code finds at the j-th
 pub all_holds : (p : List ℕ → Bool) (l : List ℕ) → all p (records 16 (length l / 16 - 0) l) ≡ all p (titles l)
@@ -96,13 +99,12 @@ module _ (l t : List ℕ) (b : Bool) (k : ℕ) (e : b ≡ list_ok l) (f : not b 
 pub ruleset place_laws = (rules, place_other, place_bad, place_found, place_none)
 
 -- the three numbers determine the answer
-pub same_place : (a b : Place) → refusal a ≡ refusal b → known_as a ≡ known_as b → place_as a ≡ place_as b → a ≡ b
-same_place (At j) (At k) p q e = ap At e
-same_place (At j) None p q e = absurd (omega (arith, q))
-same_place (At j) Refused p q e = absurd (omega (arith, p))
-same_place None (At k) p q e = absurd (omega (arith, q))
-same_place None None p q e = refl
-same_place None Refused p q e = absurd (omega (arith, p))
-same_place Refused (At k) p q e = absurd (omega (arith, p))
-same_place Refused None p q e = absurd (omega (arith, p))
-same_place Refused Refused p q e = refl
+same_found : (x y : Option ℕ) → known_in (Ok x) ≡ known_in (Ok y) → place_in (Ok x) ≡ place_in (Ok y) → x ≡ y
+same_found None None q e = refl
+same_found None (Some k) q e = absurd (omega (arith, q))
+same_found (Some j) None q e = absurd (omega (arith, q))
+same_found (Some j) (Some k) q e = ap Some e
+
+pub same_place : (a b : Result (Option ℕ) Refusal) → refusal_in a ≡ refusal_in b → known_in a ≡ known_in b → place_in a ≡ place_in b → a ≡ b
+same_place a b p q r =
+    answer_once a b p (λ x y e f. same_found x y (sym (ap known_in e) ∙ (q ∙ ap known_in f)) (sym (ap place_in e) ∙ (r ∙ ap place_in f)))

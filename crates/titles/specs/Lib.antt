@@ -1,3 +1,4 @@
 pub mod Title
 pub mod Own
 pub mod Meaning
+pub mod Answer

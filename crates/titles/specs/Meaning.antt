@@ -4,8 +4,7 @@ use Rattle.numbers.specs.Lengths.{TITLE}
 use Rattle.numbers.specs.Refusals.{NOT-REFUSED, BAD-CONTENTS}
 use Rattle.titles.specs.Title.{trim}
 use Rattle.titles.specs.Own.{title_refusal, known, refusal, known_as, place_as}
-use Rattle.titles.specs.declared.own.Place.{Place}
-use Rattle.titles.specs.declared.own.Place.TheVariants.{At, None, Refused}
+use Rattle.titles.specs.Own.{Place, Place.At, Place.None, Place.Refused}
 
 -- an own title stands at the place k, and it is the sought one but for their outer spaces
 pub record EqualAt (own sought : List ℕ) (k : ℕ) : Type 0 where

@@ -6,8 +6,6 @@ use Rattle.laws.specs.Refusals.{first_due}
 use Rattle.numbers.specs.Lengths.{TITLE}
 use Rattle.numbers.specs.Refusals.{NOT-REFUSED, BAD-CONTENTS}
 use Rattle.titles.specs.Title.{title_ok, titles_equal}
-use Rattle.titles.specs.declared.own.Place.{Place}
-use Rattle.titles.specs.declared.own.Place.TheVariants.{At, None, Refused}
 
 -- the titles of a list
 abbrev pub titles : List ℕ → List (List ℕ)
@@ -33,7 +31,12 @@ pub record Checked (own sought : List ℕ) (r k p : ℕ) : Type 0 where
   pub yes : k ≡ cond (known own sought) 1 0
   pub place : p ≡ title_place own sought
 
--- ---- the three numbers of each case
+-- ---- the cases of an answer: at a place, from 0 to 7; none; or refused. And the three numbers of each
+pub data Place : Type 0 where
+  At : ℕ → Place
+  None : Place
+  Refused : Place
+
 abbrev pub refusal : Place → ℕ
 refusal (At k) = NOT-REFUSED
 refusal None = NOT-REFUSED

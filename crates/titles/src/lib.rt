@@ -6,5 +6,5 @@ mod own;
 mod title;
 
 pub use equal::titles_equal;
-pub use own::{Place, title_place};
+pub use own::title_place;
 pub use title::title_ok;

@@ -2,21 +2,13 @@
 ghost use Rattle.std.specs.Prelude.{◌≡◌};
 ghost use Rattle.laws.specs.Lists.{first_place};
 ghost use Rattle.titles.specs.Title.{titles_equal};
-ghost use Rattle.titles.specs.Own.{titles, list_ok, Checked, refusal, known_as, place_as};
+ghost use Rattle.titles.specs.Own.{titles, list_ok, Checked};
+ghost use Rattle.titles.specs.Answer.{known_in, place_in};
+ghost use Rattle.numbers.specs.Refusals.{refusal_in};
 
 use crate::equal::titles_equal;
 use crate::title::title_ok;
-use numbers::TITLE;
-
-// Where the title sought stands among our own.
-#[derive(Clone, Copy)]
-pub enum Place {
-    // at this place, from 0 to 7
-    At(usize),
-    None,
-    // numbers::BAD_CONTENTS
-    Refused,
-}
+use numbers::{Refusal, TITLE};
 
 // Whether own is 0 to 8 valid titles of 16 bytes.
 fn list_ok(own: &[u8]) -> bool
@@ -57,19 +49,19 @@ fn first_equal(own: &[u8], t: &[u8]) -> usize
     place
 }
 
-// Which of our own titles the sought one is. The list is tested whole before it is searched.
-pub fn title_place(own: &[u8], sought: &[u8]) -> Place
-    ensures { Checked own.now sought.now (refusal result) (known_as result) (place_as result) }
+// The place of the first of our own titles that the sought one is, from 0 to 7; None where it is none of them. The list is tested whole before it is searched.
+pub fn title_place(own: &[u8], sought: &[u8]) -> Result<Option<usize>, Refusal>
+    ensures { Checked own.now sought.now (refusal_in result) (known_in result) (place_in result) }
 {
     if sought.len() != TITLE {
-        return Place::Refused;
+        return Err(Refusal::BadContents);
     }
     if !list_ok(own) {
-        return Place::Refused;
+        return Err(Refusal::BadContents);
     }
     let place = first_equal(own, sought);
     if place < own.len() / TITLE {
-        return Place::At(place);
+        return Ok(Some(place));
     }
-    Place::None
+    Ok(None)
 }

@@ -12,5 +12,5 @@ uid_in_agrees κs args a b x y p q = parts_agree p q
 pub user_ok_agrees : Agrees 1 user-ok.Kinds.ps user-ok.Kinds.r user-ok.Reads.Post
 user_ok_agrees κs args a b x y p q = agree p q
 
-pub user_good_agrees : Agrees 3 user-good.Kinds.ps user-good.Kinds.r user-good.Reads.Post
+pub user_good_agrees : Agrees 1 user-good.Kinds.ps user-good.Kinds.r user-good.Reads.Post
 user_good_agrees κs args a b x y p q = agree p q

@@ -9,6 +9,7 @@ use Rattle.items.specs.Wire.{sequence}
 use Rattle.roles.specs.Role.{Role}
 use Rattle.roles.specs.Sheet.{roles_in, role_sheet_ok}
 use Rattle.user_items.specs.Kinds.{version_ok}
+use Rattle.user_items.specs.declared.sent.User as given
 
 -- as the host gives it: the implementation class UID, the version name, the operations invoked and performed, the role sheet
 pub record User : Type 0 where
@@ -21,6 +22,10 @@ pub record User : Type 0 where
 -- from the arguments of a call
 abbrev pub user_of : List ℕ → List ℕ → ℕ → ℕ → List ℕ → User
 user_of class version invoked performed roles = record { class = class; version = version; invoked = invoked; performed = performed; roles = roles }
+
+-- as the code has it
+abbrev pub user_said : given.User → User
+user_said u = user_of u.class_uid.now u.version_name.now u.invoked u.performed u.roles.now
 
 -- a count has two bytes: every number that a call takes
 unfoldable pub count_ok : ℕ → Bool

@@ -11,43 +11,35 @@ const MAXIMUM: usize = 4;
 // Two numbers of two bytes.
 const COUNTS: usize = 4;
 
+#[tactic(auto, unfolding(crate::specs::Private::OnePass::known_in, laws::specs::Lists::among))]
 pub(crate) fn known(t: u8) -> bool
     ensures { result ≡ known_in user_kinds t }
 {
-    if t < 0x51 {
-        return false;
-    }
-    t <= 0x55
+    matches!(t, 0x51..=0x55)
 }
 
 // Whether a sub-item may have this body.
+#[tactic(auto, unfolding(crate::specs::Private::OnePass::good_in, crate::specs::Kinds::four_long))]
 pub(crate) fn body_good(t: u8, b: &[u8]) -> bool
     ensures { result ≡ good_in user_kinds t b.now }
 {
-    if t == 0x51 {
-        return b.len() == MAXIMUM;
+    match t {
+        0x51 => b.len() == MAXIMUM,
+        0x52 => names::name_ok(b),
+        0x53 => b.len() == COUNTS,
+        0x54 => role_good(b),
+        0x55 => version_ok(b),
+        _ => true,
     }
-    if t == 0x52 {
-        return names::name_ok(b);
-    }
-    if t == 0x53 {
-        return b.len() == COUNTS;
-    }
-    if t == 0x54 {
-        return role_good(b);
-    }
-    if t == 0x55 {
-        return version_ok(b);
-    }
-    true
 }
 
 // What of a body must not come twice among those of its type: nothing where only one may come.
+#[tactic(auto, unfolding(crate::specs::Private::OnePass::once_in))]
 pub(crate) fn once(t: u8, b: &[u8]) -> &[u8]
     ensures { result.now ≡ once_in user_kinds t b.now }
 {
-    if t == 0x54 {
-        return uid_in(b);
+    match t {
+        0x54 => uid_in(b),
+        _ => &b[..0],
     }
-    &b[0..0]
 }

@@ -7,5 +7,5 @@ mod sent;
 mod user;
 
 pub use body::uid_in;
-pub use sent::user_good;
+pub use sent::{User, user_good};
 pub use user::user_ok;

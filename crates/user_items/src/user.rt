@@ -1,78 +1,60 @@
 // The sub-items of a 50H.
-ghost use Rattle.std.specs.Prelude.{◌≡◌, ◌+◌, ◌≤◌, length, drop};
+ghost use Rattle.std.specs.Prelude.{◌≡◌};
 ghost use Rattle.items.specs.Items.{walk};
+ghost use Rattle.items.specs.Steps.{left};
 ghost use Rattle.user_items.specs.Kinds.{user_kinds, good_50h};
-ghost use Rattle.user_items.specs.Private.OnePass.{once_in, same_at, comes, sub_ok, passes};
+ghost use Rattle.user_items.specs.Private.OnePass.{once_in, comes, sub_ok, passes};
 
 use crate::kinds::{body_good, known, once};
+use items::{Item, Items};
 
-// Whether the sub-item that stands at a place and ends at e is of type t and has x for what must not come twice.
-fn same_at(t: u8, x: &[u8], s: &[u8], at: usize, e: usize) -> bool
-    requires { (at + 4 ≤ e) × (e ≤ length s.now) }
-    ensures { result ≡ same_at (once_in user_kinds t) t x.now s.now at e }
+// Whether one of these is of type t and has x for what must not come twice.
+#[tactic(auto, using(crate::proofs::UserLaws::comes_laws))]
+fn comes(t: u8, x: &[u8], among: Items) -> bool
+    ensures { result ≡ comes (once_in user_kinds t) t x.now (left among.entry) }
 {
-    if s[at] != t {
-        return false;
-    }
-    let a = at + 4;
-    octets::same_bytes(x, once(t, &s[a..e]))
-}
-
-// Whether one is so from a place on.
-fn comes_from(t: u8, x: &[u8], s: &[u8], from: usize) -> bool
-    ensures { result ≡ comes (once_in user_kinds t) t x.now (walk (drop from s.now)) }
-{
-    let mut j = from;
-    while j < s.len() {
-        let f = items::item_end(s, j);
-        if f == 0 {
+    for item in among {
+        let Ok(item) = item else {
             return false;
-        }
-        if same_at(t, x, s, j, f) {
+        };
+        if item.kind == t && octets::same_bytes(x, once(t, item.body)) {
             return true;
         }
-        j = f;
     }
     false
 }
 
-// Whether a sub-item of this type with this body may stand before those from e on.
-fn sub_ok(t: u8, b: &[u8], s: &[u8], e: usize) -> bool
-    ensures { result ≡ sub_ok user_kinds t b.now (walk (drop e s.now)) }
+// Whether a sub-item may stand before these.
+#[tactic(auto, unfolding(crate::specs::Private::OnePass::sub_ok))]
+fn sub_ok(item: Item, behind: Items) -> bool
+    ensures { result ≡ sub_ok user_kinds item.entry.kind item.entry.body.now (left behind.entry) }
 {
-    if !known(t) {
+    if !known(item.kind) {
         return true;
     }
-    if !body_good(t, b) {
-        return false;
-    }
-    !comes_from(t, once(t, b), s, e)
+    body_good(item.kind, item.body) && !comes(item.kind, once(item.kind, item.body), behind)
 }
 
+#[tactic(auto, unfolding(crate::specs::Private::OnePass::passes))]
 fn subs_ok(s: &[u8]) -> bool
     ensures { result ≡ passes user_kinds (walk s.now) }
 {
-    let mut at: usize = 0;
-    while at < s.len() {
-        let e = items::item_end(s, at);
-        if e == 0 {
+    let mut items = Items::of(s);
+    while let Some(item) = items.next() {
+        let Ok(item) = item else {
+            return false;
+        };
+        if !sub_ok(item, items) {
             return false;
         }
-        let a = at + 4;
-        if !sub_ok(s[at], &s[a..e], s, e) {
-            return false;
-        }
-        at = e;
     }
     true
 }
 
 // Whether b may be the body of a 50H.
+#[tactic(auto, using(crate::proofs::UserLaws::user_is))]
 pub fn user_ok(b: &[u8]) -> bool
     ensures { result ≡ good_50h b.now }
 {
-    if items::count_of(0x51, b) < 1 {
-        return false;
-    }
-    subs_ok(b)
+    items::count_of(0x51, b) >= 1 && subs_ok(b)
 }

@@ -21,36 +21,15 @@ use Rattle.writing.specs.Wire.{pdu_bytes}
 use Rattle.writing.specs.Form.{Wrote, most_of, data_form}
 use Rattle.writing.proofs.FormLaws.{contents_bad, wrote_long, wrote_short, wrote_fine}
 
--- ---- `header`
-pub header_is : (l : List ℕ) (kind n : ℕ) → l ≡ four n → kind ∷ 0 ∷ get_or l 0 0 ∷ get_or l 1 0 ∷ get_or l 2 0 ∷ get_or l 3 0 ∷ [] ≡ kind ∷ 0 ∷ four n
-header_is l kind n e = rw e
-
-pub ruleset header_laws = (rules, header_is)
-
--- ---- `most_of`, `write_data`
-module _ (peer : ℕ) where
-  pub most_none : peer ≡ 0 → LONGEST ≡ most_of peer
-  unfolding most_of
-  most_none e = simp (eq-eqb peer 0 e)
-
-  pub most_peer : (peer ≡ 0 → ⊥) → peer ≤ LONGEST → peer ≡ most_of peer
-  unfolding most_of
-  most_peer n h = simp (ne_eqb peer 0 n, le-leb peer LONGEST h)
-
-  pub most_over : (peer ≡ 0 → ⊥) → LONGEST < peer → LONGEST ≡ most_of peer
-  unfolding most_of
-  most_over n h = simp (ne_eqb peer 0 n, lt-leb peer LONGEST h)
-
-pub ruleset most_laws = (rules, most_none, most_peer, most_over)
-
+-- ---- `write_data`
 module _ (peer : ℕ) (s o : List ℕ) (b : Bool) (e : b ≡ pdvs_ok 3 s) where
-  pub data_refused : not b ≡ true → Wrote (data_form peer (items_of s)) o (record { refusal = BAD-CONTENTS; count = 0 }) o
+  pub data_refused : b ≡ false → Wrote (data_form peer (items_of s)) o (record { refusal = BAD-CONTENTS; count = 0 }) o
   unfolding data_form items_good
   data_refused = contents_bad (data_form peer (items_of s)) o b e
 
-  module _ (m : ℕ) (t : not b ≡ false) (q : m ≡ most_of peer) where
+  module _ (m : ℕ) (t : b ≡ true) (q : m ≡ most_of peer) where
     data_good : pdvs_ok 3 s ≡ true
-    data_good = sym e ∙ not-false b t
+    data_good = sym e ∙ t
 
     pub data_over : m < length s → Wrote (data_form peer (items_of s)) o (record { refusal = LONG-PDU; count = 0 }) o
     unfolding data_form items_good pdu_bytes

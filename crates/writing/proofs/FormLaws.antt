@@ -13,14 +13,24 @@ use borrow.Author.Tests.{lt-ltb, le-ltb, ltb-false, leb-true, ne_eqb, not-true, 
 use Rattle.laws.specs.Lists.{among}
 use Rattle.laws.specs.Refusals.{first_due}
 use Rattle.laws.proofs.Refusals.{not_due}
-use Rattle.numbers.specs.Refusals.{NOT-REFUSED, SHORT-OUTPUT, BAD-CONTENTS, LONG-PDU}
+use Rattle.std.specs.Prelude.{Result, Ok, Err}
+use Rattle.numbers.specs.declared.refusals.Refusal.{Refusal}
+use Rattle.numbers.proofs.NumberLaws.{answer_once}
+use Rattle.numbers.specs.Refusals.{refusal_in, NOT-REFUSED, SHORT-OUTPUT, BAD-CONTENTS, LONG-PDU}
 use Rattle.numbers.specs.Lengths.{HEADER, LONGEST, BUFFER}
 use Rattle.octets.specs.Put.{front}
 use Rattle.octets.specs.Private.Put.{Put}
 use Rattle.octets.proofs.PutLaws.{put_front, front_behind}
 use Rattle.writing.specs.Fields.{RqFields, AcFields, Reject, Items}
-use Rattle.writing.specs.Form.{Form, form_tests, form_refusal, sent_bytes, sent_of, Wrote, good_form, rq_form, ac_form, reject_form, most_of, data_form}
-use Rattle.writing.specs.declared.Sent.{Sent}
+use Rattle.writing.specs.Form.{Sent, sent, Form, form_tests, form_refusal, sent_bytes, sent_of, Wrote, good_form, rq_form, ac_form, reject_form, most_of, data_form}
+
+-- ---- two results that say the same are one
+pub sent_once : (a b : Result ℕ Refusal) → sent a ≡ sent b → a ≡ b
+sent_once a b e = answer_once a b (said a ∙ (ap (λ (x : Sent). x.refusal) e ∙ sym (said b))) (λ x y p q. ap (λ (r : Sent). r.count) (rw (p, q) at e))
+  where
+    said : (c : Result ℕ Refusal) → refusal_in c ≡ (sent c).refusal
+    said (Ok n) = refl
+    said (Err m) = refl
 
 -- ---- when each refusal is given, and when none is
 module _ (f : Form) (room : ℕ) where
@@ -136,12 +146,12 @@ module _ (f : Form) (o : List ℕ) where
 
 -- ---- a call that tests the contents first, and then writes what is good
 module _ (f : Form) (o : List ℕ) (b : Bool) (e : b ≡ f.good) where
-  pub contents_bad : not b ≡ true → Wrote f o (record { refusal = BAD-CONTENTS; count = 0 }) o
-  contents_bad t = wrote_bad f o (sym e ∙ not-true b t)
+  pub contents_bad : b ≡ false → Wrote f o (record { refusal = BAD-CONTENTS; count = 0 }) o
+  contents_bad t = wrote_bad f o (sym e ∙ t)
 
-  pub contents_good : {o' : List ℕ} {r : Sent} → not b ≡ false → f.most ≡ LONGEST → Wrote (good_form f.pdu) o r o' → Wrote f o r o'
+  pub contents_good : {o' : List ℕ} {r : Sent} → b ≡ true → f.most ≡ LONGEST → Wrote (good_form f.pdu) o r o' → Wrote f o r o'
   contents_good {o'} {r} t m w =
-      let q : f ≡ good_form f.pdu = λ i. record { good = (sym e ∙ not-false b t) i; most = m i; pdu = f.pdu } in
+      let q : f ≡ good_form f.pdu = λ i. record { good = (sym e ∙ t) i; most = m i; pdu = f.pdu } in
       subst (λ (g : Form). Wrote g o r o') (sym q) w
 
 pub ruleset contents_laws = (rules, contents_bad, contents_good)

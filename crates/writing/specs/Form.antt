@@ -1,15 +1,25 @@
 -- The one form of each PDU that is sent, and what a call that writes it answers and leaves: "An answered call writes its sent bytes at the start of the output and changes
 -- no byte beyond them." "Every refusal returns its number, zero counts .. output stay unchanged."
-use Rattle.std.specs.Prelude.{ℕ, ◌-◌, ◌≡◌, Bool, true, not, cond, List, [], ◌∷◌, length, leb, ltb, eqb}
+use Rattle.std.specs.Prelude.{ℕ, ◌-◌, ◌≡◌, Bool, true, not, cond, List, [], ◌∷◌, length, leb, ltb, eqb, Result, Ok, Err}
 use Rattle.laws.specs.Refusals.{first_due}
-use Rattle.numbers.specs.Refusals.{NOT-REFUSED, SHORT-OUTPUT, BAD-CONTENTS, LONG-PDU}
+use Rattle.numbers.specs.declared.refusals.Refusal.{Refusal}
+use Rattle.numbers.specs.Refusals.{NOT-REFUSED, SHORT-OUTPUT, BAD-CONTENTS, LONG-PDU, refusal_number}
 use Rattle.numbers.specs.Kinds.{DATA-TF}
 use Rattle.numbers.specs.Lengths.{HEADER, LONGEST}
 use Rattle.octets.specs.Put.{front}
 use Rattle.writing.specs.Fields.{RqFields, AcFields, Reject, Items, Abort, rq_good, ac_good, reject_good, items_good, abort_good}
 use Rattle.writing.specs.Ten.{ten_of, TEN-RELEASE-RQ, TEN-RELEASE-RP, reject_bytes, abort_bytes}
 use Rattle.writing.specs.Wire.{pdu_bytes, associate_bytes, rq_pdu, ac_pdu}
-use Rattle.writing.specs.declared.Sent.{Sent}
+
+-- what a writing call answers: NOT-REFUSED or the paper's refusal number; the bytes sent
+pub record Sent : Type 0 where
+  pub refusal : ℕ
+  pub count : ℕ
+
+-- as the code's result says it
+abbrev pub sent : Result ℕ Refusal → Sent
+sent (Ok n) = record { refusal = NOT-REFUSED; count = n }
+sent (Err e) = record { refusal = refusal_number e; count = 0 }
 
 -- what some contents want sent: whether they are good, the greatest PDU-length that may be sent, the bytes
 pub record Form : Type 0 where

@@ -10,10 +10,3 @@ pub use ten::{
     TEN_RELEASE_RP, TEN_RELEASE_RQ, ten_len, write_abort, write_reject, write_release_request,
     write_release_response, write_ten,
 };
-
-// What a writing call answers: NOT_REFUSED or the paper's refusal number; the bytes sent.
-#[derive(Clone, Copy)]
-pub struct Sent {
-    pub refusal: u8,
-    pub count: usize,
-}

@@ -1,15 +1,15 @@
 // The ten-byte PDUs.
-ghost use Rattle.std.specs.Prelude.{◌≡◌, ◌≤◌, length};
+ghost use Rattle.std.specs.Prelude.{◌≡◌, [], length, unwrap_or};
+ghost use Rattle.numbers.specs.Kinds.{type_byte};
 ghost use Rattle.numbers.specs.Lengths.{TEN};
 ghost use Rattle.octets.specs.Put.{Placed};
 ghost use Rattle.writing.specs.Fields.{reject_of, abort_of, abort_good};
-ghost use Rattle.writing.specs.Ten.{TEN-RELEASE-RP, ten_of};
-ghost use Rattle.writing.specs.Form.{Wrote, good_form, reject_form, release_rq_form, release_rp_form, abort_form};
+ghost use Rattle.writing.specs.Ten.{ten_bytes, ten_of};
+ghost use Rattle.writing.specs.Form.{Wrote, sent, good_form, reject_form, release_rq_form, release_rp_form, abort_form};
 
-use crate::Sent;
-use numbers::{ABORT, ASSOCIATE_RJ, RELEASE_RP, RELEASE_RQ};
+use numbers::{Kind, Refusal, TEN};
 
-// The fixed ones by number.
+// The fixed ones by number: `ten_len` and `write_ten` take any number, so these are no enum.
 pub const NO_TEN: u8 = 0;
 
 pub const ABORT_USER: u8 = 1;
@@ -26,119 +26,102 @@ pub const TEN_RELEASE_RQ: u8 = 6;
 
 pub const TEN_RELEASE_RP: u8 = 7;
 
-fn ten_of(which: u8) -> [u8; 10]
-    requires { (1 ≤ which) × (which ≤ TEN-RELEASE-RP) }
-    ensures { result ≡ ten_of which }
+// A PDU-length of 4, a reserved byte, and the three bytes behind it: 0 where the PDU has no such value.
+fn ten_bytes(kind: Kind, res: u8, source: u8, reason: u8) -> [u8; 10]
+    ensures { result ≡ ten_bytes (type_byte kind) res source reason }
 {
-    match which {
-        ABORT_USER => [ABORT, 0, 0, 0, 0, 4, 0, 0, 0, 0],
-        ABORT_UNRECOGNIZED => [ABORT, 0, 0, 0, 0, 4, 0, 0, 2, 1],
-        ABORT_UNEXPECTED => [ABORT, 0, 0, 0, 0, 4, 0, 0, 2, 2],
-        ABORT_INVALID => [ABORT, 0, 0, 0, 0, 4, 0, 0, 2, 6],
-        REJECT_VERSION => [ASSOCIATE_RJ, 0, 0, 0, 0, 4, 0, 1, 2, 2],
-        TEN_RELEASE_RQ => [RELEASE_RQ, 0, 0, 0, 0, 4, 0, 0, 0, 0],
-        _ => [RELEASE_RP, 0, 0, 0, 0, 4, 0, 0, 0, 0],
-    }
+    [kind as u8, 0, 0, 0, 0, 4, 0, res, source, reason]
+}
+
+#[tactic(auto, using(crate::proofs::TenLaws::no_ten), unfolding(crate::specs::Ten::ten_of, crate::specs::Ten::tens))]
+fn ten_of(which: u8) -> Option<[u8; 10]>
+    ensures { unwrap_or result [] ≡ ten_of which }
+{
+    Some(match which {
+        ABORT_USER => ten_bytes(Kind::Abort, 0, 0, 0),
+        ABORT_UNRECOGNIZED => ten_bytes(Kind::Abort, 0, 2, 1),
+        ABORT_UNEXPECTED => ten_bytes(Kind::Abort, 0, 2, 2),
+        ABORT_INVALID => ten_bytes(Kind::Abort, 0, 2, 6),
+        REJECT_VERSION => ten_bytes(Kind::AssociateRj, 1, 2, 2),
+        TEN_RELEASE_RQ => ten_bytes(Kind::ReleaseRq, 0, 0, 0),
+        TEN_RELEASE_RP => ten_bytes(Kind::ReleaseRp, 0, 0, 0),
+        _ => return None,
+    })
 }
 
 // How many bytes the PDU of this number has: 10, or 0 for none.
 pub fn ten_len(which: u8) -> usize
     ensures { result ≡ length (ten_of which) }
 {
-    if which == NO_TEN {
-        return 0;
+    match ten_of(which) {
+        Some(pdu) => pdu.len(),
+        None => 0,
     }
-    if TEN_RELEASE_RP < which {
-        return 0;
-    }
-    numbers::TEN
 }
 
 // Writes the PDU of this number to the start of the output and answers how many bytes it has; where it has no room, and for no PDU, nothing is written and 0 answered.
 pub fn write_ten(which: u8, out: &mut [u8]) -> usize
     ensures { Placed out.old 0 (ten_of which) result out.new }
 {
-    if ten_len(which) == 0 {
-        return 0;
+    match ten_of(which) {
+        Some(pdu) => octets::put(out, 0, &pdu),
+        None => 0,
     }
-    let pdu = ten_of(which);
-    octets::put(out, 0, &pdu)
 }
 
 // Writes a PDU of ten bytes with good contents.
-fn send(pdu: &[u8], out: &mut [u8]) -> Sent
-    requires { length pdu.now ≡ TEN }
-    ensures { Wrote (good_form pdu.now) out.old result out.new }
+fn send(pdu: [u8; 10], out: &mut [u8]) -> Result<usize, Refusal>
+    ensures { Wrote (good_form pdu) out.old (sent result) out.new }
 {
-    if out.len() < numbers::TEN {
-        return Sent {
-            refusal: numbers::SHORT_OUTPUT,
-            count: 0,
-        };
+    if out.len() < TEN {
+        return Err(Refusal::ShortOutput);
     }
-    let k = octets::put(out, 0, pdu);
-    Sent {
-        refusal: numbers::NOT_REFUSED,
-        count: k,
-    }
+    Ok(octets::put(out, 0, &pdu))
 }
 
 // Writes an A-ASSOCIATE-RJ to the start of the output.
-pub fn write_reject(res: u8, source: u8, reason: u8, out: &mut [u8]) -> Sent
-    ensures { Wrote (reject_form (reject_of res source reason)) out.old result out.new }
+pub fn write_reject(res: u8, source: u8, reason: u8, out: &mut [u8]) -> Result<usize, Refusal>
+    ensures { Wrote (reject_form (reject_of res source reason)) out.old (sent result) out.new }
 {
     if !reasons::reject_ok(res, source, reason) {
-        return Sent {
-            refusal: numbers::BAD_CONTENTS,
-            count: 0,
-        };
+        return Err(Refusal::BadContents);
     }
-    let pdu = [ASSOCIATE_RJ, 0, 0, 0, 0, 4, 0, res, source, reason];
-    send(&pdu, out)
+    send(ten_bytes(Kind::AssociateRj, res, source, reason), out)
 }
 
 // Whether an ABORT with these values may be sent.
+#[tactic(auto, unfolding(crate::specs::Fields::abort_good))]
 fn abort_good(source: u8, reason: u8) -> bool
     ensures { result ≡ abort_good (abort_of source reason) }
 {
-    if source == 0 {
-        return reason == 0;
+    match source {
+        0 => reason == 0,
+        _ => reasons::abort_ok(source, reason),
     }
-    reasons::abort_ok(source, reason)
 }
 
 // Writes an A-ABORT to the start of the output.
-pub fn write_abort(source: u8, reason: u8, out: &mut [u8]) -> Sent
-    ensures { Wrote (abort_form (abort_of source reason)) out.old result out.new }
+pub fn write_abort(source: u8, reason: u8, out: &mut [u8]) -> Result<usize, Refusal>
+    ensures { Wrote (abort_form (abort_of source reason)) out.old (sent result) out.new }
 {
     if !abort_good(source, reason) {
-        return Sent {
-            refusal: numbers::BAD_CONTENTS,
-            count: 0,
-        };
+        return Err(Refusal::BadContents);
     }
-    let pdu = [ABORT, 0, 0, 0, 0, 4, 0, 0, source, reason];
-    send(&pdu, out)
-}
-
-fn send_fixed(which: u8, out: &mut [u8]) -> Sent
-    requires { (1 ≤ which) × (which ≤ TEN-RELEASE-RP) }
-    ensures { Wrote (good_form (ten_of which)) out.old result out.new }
-{
-    let pdu = ten_of(which);
-    send(&pdu, out)
+    send(ten_bytes(Kind::Abort, 0, source, reason), out)
 }
 
 // Writes an A-RELEASE-RQ to the start of the output.
-pub fn write_release_request(out: &mut [u8]) -> Sent
-    ensures { Wrote release_rq_form out.old result out.new }
+#[tactic(auto, unfolding(crate::specs::Ten::ten_of, crate::specs::Ten::tens))]
+pub fn write_release_request(out: &mut [u8]) -> Result<usize, Refusal>
+    ensures { Wrote release_rq_form out.old (sent result) out.new }
 {
-    send_fixed(TEN_RELEASE_RQ, out)
+    send(ten_bytes(Kind::ReleaseRq, 0, 0, 0), out)
 }
 
 // Writes an A-RELEASE-RP to the start of the output.
-pub fn write_release_response(out: &mut [u8]) -> Sent
-    ensures { Wrote release_rp_form out.old result out.new }
+#[tactic(auto, unfolding(crate::specs::Ten::ten_of, crate::specs::Ten::tens))]
+pub fn write_release_response(out: &mut [u8]) -> Result<usize, Refusal>
+    ensures { Wrote release_rp_form out.old (sent result) out.new }
 {
-    send_fixed(TEN_RELEASE_RP, out)
+    send(ten_bytes(Kind::ReleaseRp, 0, 0, 0), out)
 }

@@ -19,25 +19,32 @@ use Rattle.items.specs.Wire.{item_bytes, items_bytes}
 use Rattle.items.proofs.WireLaws.{item_length}
 use Rattle.sheets.specs.Contexts.{Context}
 use Rattle.sheets.specs.Sheet.{contexts_in}
-use Rattle.user_items.specs.Sent.{user_of, user_bytes}
+use Rattle.user_items.specs.Sent.{user_bytes}
 use Rattle.writing.specs.Wire.{pdu_bytes, associate_items, associate_bytes, context_body}
 use Rattle.writing.specs.Form.{Wrote, good_form}
 use Rattle.writing_associate.specs.Private.ContextItems.{open_bytes, context_bytes, capped}
-use Rattle.writing_associate.specs.Private.Pdu.{pdu_kind, pdu_of, base, item_part, fixed_part, Fit, Known, Measured}
+use Rattle.writing_associate.specs.Private.Pdu.{Associate, contexts_of, pdu_kind, pdu_of, base, item_part, fixed_part, Fit, Known, Measured}
 use Rattle.writing_associate.specs.Private.UserItems.{UserFit}
 use Rattle.writing_associate.proofs.ItemLaws.{part_room, rest_room, both_put, item_room}
 use Rattle.writing.proofs.FormLaws.{wrote_long, wrote_short, wrote_fine}
 
 -- ---- `pdu_size`
-pub size_over : (a : List ℕ) (u x : ℕ) → LONGEST < 68 + (4 + length a) + (4 + u) → LONGEST + 1 ≡ capped (base a u + x)
-unfolding base capped
-size_over a u x h = simp (lt-leb (68 + (4 + length a) + (4 + u) + x) LONGEST (omega arith))
+module _ (f : Associate) where
+  pub size_name : Fit f → length f.application ≤ 64
+  size_name w = w.name_short
 
-pub size_is : (a : List ℕ) (u x n : ℕ) → n ≡ capped (68 + (4 + length a) + (4 + u) + x) → n ≡ capped (base a u + x)
-unfolding base
-size_is a u x n e = e
+  pub size_whole : Fit f → length f.sheet % RECORD ≡ 0
+  size_whole w = w.whole
 
-pub ruleset size_laws = (rules, size_over, size_is)
+  pub size_over : (u x : ℕ) → LONGEST < 68 + (4 + length f.application) + (4 + u) → LONGEST + 1 ≡ capped (base f u + x)
+  unfolding base capped
+  size_over u x h = simp (lt-leb (68 + (4 + length f.application) + (4 + u) + x) LONGEST (omega arith))
+
+  pub size_is : (u x n : ℕ) → n ≡ capped (68 + (4 + length f.application) + (4 + u) + x) → n ≡ capped (base f u + x)
+  unfolding base
+  size_is u x n e = e
+
+pub ruleset size_laws = (rules, size_name, size_whole, size_over, size_is)
 
 -- ---- `put_fixed`
 abbrev fixed_head : ℕ → List ℕ → List ℕ
@@ -53,55 +60,55 @@ fixed_put o l o₁ o₂ middle kind n a r h m e p q =
 pub ruleset fixed_laws = (rules, fixed_put)
 
 -- ---- `put_items`
-part_is : (k : Bool) (a u s : List ℕ) → length (item_part k a u s) ≡ 4 + length a + (length (context_bytes k false s 0) + (4 + length u))
+part_is : (f : Associate) → length (item_part f) ≡ 4 + length f.application + (length (contexts_of f) + (4 + length (user_bytes f.user)))
 unfolding item_part
-part_is k a u s = simp (length-append, item_length)
+part_is f = simp (length-append, item_length)
 
-module _ (k : Bool) (o a c v r s : List ℕ) (i p user at : ℕ) (w : Known k a (user_of c v i p r) s user at (length o)) where
+module _ (f : Associate) (o : List ℕ) (user at : ℕ) (w : Known f user at (length o)) where
   abbrev u : List ℕ
-  u = user_bytes (user_of c v i p r)
+  u = user_bytes f.user
 
-  pub known_user : UserFit c v
+  pub known_user : UserFit f.user
   known_user = w.user_fit
 
-  pub known_size : user ≡ length (user_bytes (user_of c v i p r))
+  pub known_size : user ≡ length (user_bytes f.user)
   known_size = w.user_size
 
   pub known_limit : user ≤ LONGEST
-  known_limit = let l = part_is k a u s in let m = w.limit in let e = w.user_size in omega arith
+  known_limit = let l = part_is f in let m = w.limit in let e = w.user_size in omega arith
 
-  pub known_whole : length s % RECORD ≡ 0
+  pub known_whole : length f.sheet % RECORD ≡ 0
   known_whole = w.whole
 
-  pub known_small : length (context_bytes k false s 0) ≤ LONGEST
-  known_small = let l = part_is k a u s in let m = w.limit in omega arith
+  pub known_small : length (contexts_of f) ≤ LONGEST
+  known_small = let l = part_is f in let m = w.limit in omega arith
 
-  pub known_name : length a < 65536
-  known_name = let l = part_is k a u s in let m = w.limit in omega arith
+  pub known_name : length f.application < 65536
+  known_name = let l = part_is f in let m = w.limit in omega arith
 
-  all_room : at + length (item_bytes 0x10 a ++ (context_bytes k false s 0 ++ item_bytes 0x50 u)) ≤ length o
+  all_room : at + length (item_bytes 0x10 f.application ++ (contexts_of f ++ item_bytes 0x50 u)) ≤ length o
   unfolding item_part
   all_room = w.room
 
-  pub name_room : at + 4 + length a ≤ length o
-  name_room = item_room o a at 0x10 (part_room o (item_bytes 0x10 a) _ at all_room)
+  pub name_room : at + 4 + length f.application ≤ length o
+  name_room = item_room o f.application at 0x10 (part_room o (item_bytes 0x10 f.application) _ at all_room)
 
-  module _ (o₁ : List ℕ) (e : ℕ) (q : Put o at (item_bytes 0x10 a) e o₁) where
-    behind_name : e + length (context_bytes k false s 0 ++ item_bytes 0x50 u) ≤ length o₁
-    behind_name = rest_room o (item_bytes 0x10 a) (context_bytes k false s 0 ++ item_bytes 0x50 u) at all_room o₁ e q
+  module _ (o₁ : List ℕ) (e : ℕ) (q : Put o at (item_bytes 0x10 f.application) e o₁) where
+    behind_name : e + length (contexts_of f ++ item_bytes 0x50 u) ≤ length o₁
+    behind_name = rest_room o (item_bytes 0x10 f.application) (contexts_of f ++ item_bytes 0x50 u) at all_room o₁ e q
 
-    pub contexts_room : e + length (context_bytes k false s 0) ≤ length o₁
-    contexts_room = part_room o₁ (context_bytes k false s 0) (item_bytes 0x50 u) e behind_name
+    pub contexts_room : e + length (contexts_of f) ≤ length o₁
+    contexts_room = part_room o₁ (contexts_of f) (item_bytes 0x50 u) e behind_name
 
-    module _ (o₂ : List ℕ) (f : ℕ) (t : Put o₁ e (context_bytes k false s 0) f o₂) where
-      pub user_room : f + 4 + user ≤ length o₂
-      user_room = rw w.user_size (item_room o₂ u f 0x50 (rest_room o₁ (context_bytes k false s 0) (item_bytes 0x50 u) e behind_name o₂ f t))
+    module _ (o₂ : List ℕ) (b : ℕ) (t : Put o₁ e (contexts_of f) b o₂) where
+      pub user_room : b + 4 + user ≤ length o₂
+      user_room = rw w.user_size (item_room o₂ u b 0x50 (rest_room o₁ (contexts_of f) (item_bytes 0x50 u) e behind_name o₂ b t))
 
-      pub items_put : (o₃ : List ℕ) (g : ℕ) → Put o₂ f (item_bytes 0x50 (user_bytes (user_of c v i p r))) g o₃ → Put o at (item_part k a (user_bytes (user_of c v i p r)) s) g o₃
+      pub items_put : (o₃ : List ℕ) (g : ℕ) → Put o₂ b (item_bytes 0x50 (user_bytes f.user)) g o₃ → Put o at (item_part f) g o₃
       unfolding item_part
       items_put o₃ g z =
-          both_put o (item_bytes 0x10 a) (context_bytes k false s 0 ++ item_bytes 0x50 u) at all_room o₁ e q o₃ g
-          (both_put o₁ (context_bytes k false s 0) (item_bytes 0x50 u) e behind_name o₂ f t o₃ g z)
+          both_put o (item_bytes 0x10 f.application) (contexts_of f ++ item_bytes 0x50 u) at all_room o₁ e q o₃ g
+          (both_put o₁ (contexts_of f) (item_bytes 0x50 u) e behind_name o₂ b t o₃ g z)
 
 pub ruleset items_laws = (rules, known_user, known_size, known_limit, known_whole, known_small, known_name, name_room, contexts_room, user_room, items_put)
 
@@ -111,40 +118,40 @@ unfolding open_bytes
 open_all [] = refl
 open_all (c ∷ cs) = refl
 
-pdu_items : (k : Bool) (middle a u s : List ℕ) → associate_items (pdu_of k middle a u s) ≡ item_part k a u s
+pdu_items : (f : Associate) → associate_items (pdu_of f) ≡ item_part f
 unfolding associate_items pdu_of item_part context_bytes
-pdu_items true middle a u s = refl
-pdu_items false middle a u s = rw (open_all (contexts_in s))
+pdu_items f = by f.answer refl
+  where
+    by : (k : Bool) → f.answer ≡ k → associate_items (pdu_of f) ≡ item_part f
+    by true e = rw e
+    by false e = rw e (rw (open_all (contexts_in f.sheet)))
 
-pub pdu_parts : (k : Bool) (middle a u s : List ℕ) (n : ℕ) → length middle ≡ 64 → n ≡ 68 + length (item_part k a u s) → associate_bytes (pdu_of k middle a u s) ≡ fixed_part (pdu_kind k) n middle ++ item_part k a u s
+pub pdu_parts : (f : Associate) (n : ℕ) → length f.middle ≡ 64 → n ≡ 68 + length (item_part f) → associate_bytes (pdu_of f) ≡ fixed_part (pdu_kind f.answer) n f.middle ++ item_part f
 unfolding associate_bytes pdu_bytes fixed_part pdu_of
-pdu_parts k middle a u s n l e =
-    let i = pdu_items k middle a u s in
-    let b : length (0 ∷ 1 ∷ 0 ∷ 0 ∷ (middle ++ associate_items (pdu_of k middle a u s))) ≡ n = (let c = length-append middle (associate_items (pdu_of k middle a u s)) in let d = ap length i in omega arith) in
+pdu_parts f n l e =
+    let i = pdu_items f in
+    let b : length (0 ∷ 1 ∷ 0 ∷ 0 ∷ (f.middle ++ associate_items (pdu_of f))) ≡ n = (let c = length-append f.middle (associate_items (pdu_of f)) in let d = ap length i in omega arith) in
     rw (b, i)
 
 fixed_long : (kind n : ℕ) (middle : List ℕ) → length middle ≡ 64 → length (fixed_part kind n middle) ≡ 74
 unfolding fixed_part
 fixed_long kind n middle l = omega arith
 
-pub pdu_long : (k : Bool) (middle a u s : List ℕ) → length middle ≡ 64 → length (associate_bytes (pdu_of k middle a u s)) ≡ base a (length u) + length (context_bytes k false s 0) + HEADER
+pub pdu_long : (f : Associate) → length f.middle ≡ 64 → length (associate_bytes (pdu_of f)) ≡ base f (length (user_bytes f.user)) + length (contexts_of f) + HEADER
 unfolding base
-pdu_long k middle a u s l =
-    let n : ℕ = 68 + length (item_part k a u s) in
-    let e = ap length (pdu_parts k middle a u s n l refl) in
-    let c = length-append (fixed_part (pdu_kind k) n middle) (item_part k a u s) in
-    let f = fixed_long (pdu_kind k) n middle l in
-    let p = part_is k a u s in
+pdu_long f l =
+    let n : ℕ = 68 + length (item_part f) in
+    let e = ap length (pdu_parts f n l refl) in
+    let c = length-append (fixed_part (pdu_kind f.answer) n f.middle) (item_part f) in
+    let d = fixed_long (pdu_kind f.answer) n f.middle l in
+    let p = part_is f in
     omega arith
 
 -- ---- `put_pdu`
-module _ (k : Bool) (o middle a c v r s : List ℕ) (i p n user : ℕ) (w : Measured k middle a (user_of c v i p r) s n user (length o)) where
-  abbrev w_user : List ℕ
-  w_user = user_bytes (user_of c v i p r)
-
-  measured_is : n ≡ 68 + length (item_part k a w_user s)
+module _ (f : Associate) (o : List ℕ) (n user : ℕ) (w : Measured f n user (length o)) where
+  measured_is : n ≡ 68 + length (item_part f)
   unfolding base
-  measured_is = let z = w.size in let y = w.user_size in let l = part_is k a w_user s in omega arith
+  measured_is = let z = w.size in let y = w.user_size in let l = part_is f in omega arith
 
   pub pdu_fixed : 74 ≤ length o
   pdu_fixed = let z = measured_is in let l = w.room in omega arith
@@ -152,27 +159,27 @@ module _ (k : Bool) (o middle a c v r s : List ℕ) (i p n user : ℕ) (w : Meas
   pub pdu_limit : n ≤ LONGEST
   pdu_limit = w.limit
 
-  pub pdu_middle : length middle ≡ 64
+  pub pdu_middle : length f.middle ≡ 64
   pdu_middle = w.fit.middle_long
 
-  module _ (o₁ : List ℕ) (e kind : ℕ) (d : kind ≡ pdu_kind k) (q : Put o 0 (fixed_part kind n middle) e o₁) where
-    both_parts : 0 + (length (fixed_part kind n middle) + length (item_part k a w_user s)) ≤ length o
-    both_parts = let z = measured_is in let l = w.room in let f = fixed_long kind n middle w.fit.middle_long in omega arith
+  module _ (o₁ : List ℕ) (e kind : ℕ) (d : kind ≡ pdu_kind f.answer) (q : Put o 0 (fixed_part kind n f.middle) e o₁) where
+    both_parts : 0 + (length (fixed_part kind n f.middle) + length (item_part f)) ≤ length o
+    both_parts = let z = measured_is in let l = w.room in let x = fixed_long kind n f.middle w.fit.middle_long in omega arith
 
-    pub pdu_known : Known k a (user_of c v i p r) s user e (length o₁)
+    pub pdu_known : Known f user e (length o₁)
     pdu_known =
         record {
           user_fit = w.fit.user_fit;
           whole = w.fit.whole;
           user_size = w.user_size;
           limit = (let z = measured_is in let l = w.limit in omega arith);
-          room = next_room o 0 (fixed_part kind n middle) (item_part k a w_user s) o₁ e both_parts q;
+          room = next_room o 0 (fixed_part kind n f.middle) (item_part f) o₁ e both_parts q;
         }
 
-    pub pdu_put : (o₂ : List ℕ) (g : ℕ) → Put o₁ e (item_part k a (user_bytes (user_of c v i p r)) s) g o₂ → Put o 0 (associate_bytes (pdu_of k middle a (user_bytes (user_of c v i p r)) s)) g o₂
+    pub pdu_put : (o₂ : List ℕ) (g : ℕ) → Put o₁ e (item_part f) g o₂ → Put o 0 (associate_bytes (pdu_of f)) g o₂
     pdu_put o₂ g t =
-        let all = next_put o 0 (fixed_part kind n middle) (item_part k a w_user s) o₁ e both_parts q t in
-        rw (pdu_parts k middle a w_user s n w.fit.middle_long measured_is, ← d) all
+        let all = next_put o 0 (fixed_part kind n f.middle) (item_part f) o₁ e both_parts q t in
+        rw (pdu_parts f n w.fit.middle_long measured_is, ← d) all
 
 pub ruleset pdu_laws = (rules, pdu_fixed, pdu_limit, pdu_middle, pdu_known, pdu_put)
 
@@ -210,24 +217,18 @@ capped_most n x e = go (leb x LONGEST) refl
     go true q = let z : n ≡ x = e ∙ simp q in let l = leb-true x LONGEST q in omega arith
     go false q = let z : n ≡ LONGEST + 1 = e ∙ simp q in omega arith
 
-module _ (k : Bool) (o middle a c v r s : List ℕ) (i p : ℕ) (f : Fit middle a (user_of c v i p r) s) where
-  pub fit_user : UserFit c v
-  fit_user = f.user_fit
+module _ (f : Associate) (o : List ℕ) (w : Fit f) where
+  pub fit_user : UserFit f.user
+  fit_user = w.user_fit
 
-  pub fit_name : length a ≤ 64
-  fit_name = f.name_short
-
-  pub fit_whole : length s % RECORD ≡ 0
-  fit_whole = f.whole
-
-  module _ (n user : ℕ) (e : user ≡ capped (length (user_bytes (user_of c v i p r)))) (g : n ≡ capped (base a user + length (context_bytes k false s 0))) where
+  module _ (n user : ℕ) (e : user ≡ capped (length (user_bytes f.user))) (g : n ≡ capped (base f user + length (contexts_of f))) where
     abbrev w_pdu : List ℕ
-    w_pdu = associate_bytes (pdu_of k middle a (user_bytes (user_of c v i p r)) s)
+    w_pdu = associate_bytes (pdu_of f)
 
-    long_is : length w_pdu ≡ base a (length (user_bytes (user_of c v i p r))) + length (context_bytes k false s 0) + HEADER
-    long_is = pdu_long k middle a (user_bytes (user_of c v i p r)) s f.middle_long
+    long_is : length w_pdu ≡ base f (length (user_bytes f.user)) + length (contexts_of f) + HEADER
+    long_is = pdu_long f w.middle_long
 
-    pub pdu_over : LONGEST < n → Wrote (good_form (associate_bytes (pdu_of k middle a (user_bytes (user_of c v i p r)) s))) o (record { refusal = LONG-PDU; count = 0 }) o
+    pub pdu_over : LONGEST < n → Wrote (good_form (associate_bytes (pdu_of f))) o (record { refusal = LONG-PDU; count = 0 }) o
     unfolding base
     pdu_over h =
         let x = capped_over n _ g h in
@@ -236,21 +237,21 @@ module _ (k : Bool) (o middle a c v r s : List ℕ) (i p : ℕ) (f : Fit middle 
         wrote_long (good_form w_pdu) o refl (omega arith)
 
     module _ (h : n ≤ LONGEST) where
-      user_exact : user ≡ length (user_bytes (user_of c v i p r))
+      user_exact : user ≡ length (user_bytes f.user)
       unfolding base
       user_exact = let x = capped_is n _ g h in capped_is user _ e (omega arith)
 
       fits : length w_pdu ≡ n + HEADER
-      fits = let x = capped_is n _ g h in let l = long_is in let y : base a user ≡ base a (length (user_bytes (user_of c v i p r))) = ap (base a) user_exact in omega arith
+      fits = let x = capped_is n _ g h in let l = long_is in let y : base f user ≡ base f (length (user_bytes f.user)) = ap (base f) user_exact in omega arith
 
-      pub pdu_short : length o < n + HEADER → Wrote (good_form (associate_bytes (pdu_of k middle a (user_bytes (user_of c v i p r)) s))) o (record { refusal = SHORT-OUTPUT; count = 0 }) o
+      pub pdu_short : length o < n + HEADER → Wrote (good_form (associate_bytes (pdu_of f))) o (record { refusal = SHORT-OUTPUT; count = 0 }) o
       pdu_short l = let x = fits in wrote_short (good_form w_pdu) o refl (omega arith) (omega arith)
 
-      pub measured : n + HEADER ≤ length o → Measured k middle a (user_of c v i p r) s n user (length o)
-      measured l = record { fit = f; user_size = user_exact; size = capped_is n _ g h; limit = h; room = l }
+      pub measured : n + HEADER ≤ length o → Measured f n user (length o)
+      measured l = record { fit = w; user_size = user_exact; size = capped_is n _ g h; limit = h; room = l }
 
-      pub pdu_fine : (o' : List ℕ) (m : ℕ) → n + HEADER ≤ length o → Put o 0 (associate_bytes (pdu_of k middle a (user_bytes (user_of c v i p r)) s)) m o'
-          → Wrote (good_form (associate_bytes (pdu_of k middle a (user_bytes (user_of c v i p r)) s))) o (record { refusal = NOT-REFUSED; count = m }) o'
+      pub pdu_fine : (o' : List ℕ) (m : ℕ) → n + HEADER ≤ length o → Put o 0 (associate_bytes (pdu_of f)) m o'
+          → Wrote (good_form (associate_bytes (pdu_of f))) o (record { refusal = NOT-REFUSED; count = m }) o'
       pdu_fine o' m l q = let x = fits in wrote_fine (good_form w_pdu) o refl (omega arith) o' m (omega arith) q
 
-pub ruleset write_pdu_laws = (rules, capped_most, fit_user, fit_name, fit_whole, pdu_over, pdu_short, measured, pdu_fine)
+pub ruleset write_pdu_laws = (rules, capped_most, fit_user, pdu_over, pdu_short, measured, pdu_fine)

@@ -17,7 +17,7 @@ use Rattle.octets.specs.Private.Put.{Put}
 use Rattle.octets.proofs.PutLaws.{placed_put, put_nothing, next_room, next_put}
 use Rattle.items.specs.Wire.{item_bytes, sequence}
 use Rattle.items.proofs.WireLaws.{item_length, sequence_append}
-use Rattle.user_items.specs.Sent.{User, user_of, count_items, role_items, version_items, sub_items, user_bytes}
+use Rattle.user_items.specs.Sent.{User, count_items, role_items, version_items, sub_items, user_bytes}
 use Rattle.writing_associate.specs.Private.ContextItems.{capped}
 use Rattle.writing_associate.specs.Private.RoleItems.{roles_from}
 use Rattle.writing_associate.specs.Private.UserItems.{count_bytes, version_bytes, behind_51h, UserFit}
@@ -82,17 +82,17 @@ module _ (v : List ℕ) where
 pub ruleset version_size_laws = (rules, version_0, version_4)
 
 -- ---- `user_size`
-module _ (c v : List ℕ) (f : UserFit c v) where
-  pub fit_class : length c ≤ 64
+module _ (u : User) (f : UserFit u) where
+  pub fit_class : length u.class ≤ 64
   fit_class = f.class_short
 
-  pub class_item : length c < 65536
+  pub class_item : length u.class < 65536
   class_item = let h = f.class_short in omega arith
 
-  pub fit_version : length v ≤ 16
+  pub fit_version : length u.version ≤ 16
   fit_version = f.version_short
 
-  pub base_small : (x y : ℕ) → x ≤ 8 → y ≤ 20 → 12 + length c + x + y ≤ LONGEST
+  pub base_small : (x y : ℕ) → x ≤ 8 → y ≤ 20 → 12 + length u.class + x + y ≤ LONGEST
   base_small x y h l = let k = f.class_short in omega arith
 
 behind_long : (u : User) → length (behind_51h u) ≡ 4 + length u.class + (length (count_bytes u.invoked u.performed) + (length (roles_from u.roles 0) + length (version_bytes u.version)))
@@ -101,10 +101,10 @@ behind_long u = simp (length-append, item_length)
 user_long : (u : User) → length (user_bytes u) ≡ 8 + length (behind_51h u)
 user_long u = ap length (user_is u) ∙ (let a = length-append (item_bytes 0x51 (four LONGEST)) (behind_51h u) in let i = item_length 0x51 (four LONGEST) in omega arith)
 
-pub user_size : (c v s : List ℕ) (i p x y n : ℕ) → x ≡ length (count_bytes i p) → y ≡ length (version_bytes v) → n ≡ capped (12 + length c + x + y + length (roles_from s 0)) → n ≡ capped (length (user_bytes (user_of c v i p s)))
-user_size c v s i p x y n d e g =
-    let a = user_long (user_of c v i p s) in
-    let b = behind_long (user_of c v i p s) in
+pub user_size : (u : User) (x y n : ℕ) → x ≡ length (count_bytes u.invoked u.performed) → y ≡ length (version_bytes u.version) → n ≡ capped (12 + length u.class + x + y + length (roles_from u.roles 0)) → n ≡ capped (length (user_bytes u))
+user_size u x y n d e g =
+    let a = user_long u in
+    let b = behind_long u in
     g ∙ ap capped (omega arith)
 
 pub ruleset user_size_laws = (rules, fit_class, fit_version, base_small, user_size)
@@ -137,39 +137,39 @@ module _ (o v : List ℕ) (at : ℕ) where
 pub ruleset put_version_laws = (rules, version_none, version_room, version_put)
 
 -- ---- `put_behind_51`
-module _ (o c v r : List ℕ) (at i p : ℕ) (h : at + length (behind_51h (user_of c v i p r)) ≤ length o) where
+module _ (o : List ℕ) (at : ℕ) (u : User) (h : at + length (behind_51h u) ≤ length o) where
   abbrev behind_53 : List ℕ
-  behind_53 = roles_from r 0 ++ version_bytes v
+  behind_53 = roles_from u.roles 0 ++ version_bytes u.version
 
   abbrev behind_52 : List ℕ
-  behind_52 = count_bytes i p ++ behind_53
+  behind_52 = count_bytes u.invoked u.performed ++ behind_53
 
-  pub class_room : at + 4 + length c ≤ length o
-  class_room = item_room o c at 0x52 (part_room o (item_bytes 0x52 c) behind_52 at h)
+  pub class_room : at + 4 + length u.class ≤ length o
+  class_room = item_room o u.class at 0x52 (part_room o (item_bytes 0x52 u.class) behind_52 at h)
 
-  module _ (o₁ : List ℕ) (a : ℕ) (q : Put o at (item_bytes 0x52 c) a o₁) where
+  module _ (o₁ : List ℕ) (a : ℕ) (q : Put o at (item_bytes 0x52 u.class) a o₁) where
     room_52 : a + length behind_52 ≤ length o₁
-    room_52 = rest_room o (item_bytes 0x52 c) behind_52 at h o₁ a q
+    room_52 = rest_room o (item_bytes 0x52 u.class) behind_52 at h o₁ a q
 
-    pub counts_fit : a + length (count_bytes i p) ≤ length o₁
-    counts_fit = part_room o₁ (count_bytes i p) behind_53 a room_52
+    pub counts_fit : a + length (count_bytes u.invoked u.performed) ≤ length o₁
+    counts_fit = part_room o₁ (count_bytes u.invoked u.performed) behind_53 a room_52
 
-    module _ (o₂ : List ℕ) (b : ℕ) (t : Put o₁ a (count_bytes i p) b o₂) where
+    module _ (o₂ : List ℕ) (b : ℕ) (t : Put o₁ a (count_bytes u.invoked u.performed) b o₂) where
       room_53 : b + length behind_53 ≤ length o₂
-      room_53 = rest_room o₁ (count_bytes i p) behind_53 a room_52 o₂ b t
+      room_53 = rest_room o₁ (count_bytes u.invoked u.performed) behind_53 a room_52 o₂ b t
 
-      pub roles_fit : b + length (roles_from r 0) ≤ length o₂
-      roles_fit = part_room o₂ (roles_from r 0) (version_bytes v) b room_53
+      pub roles_fit : b + length (roles_from u.roles 0) ≤ length o₂
+      roles_fit = part_room o₂ (roles_from u.roles 0) (version_bytes u.version) b room_53
 
-      module _ (o₃ : List ℕ) (d : ℕ) (w : Put o₂ b (roles_from r 0) d o₃) where
-        pub version_fit : d + length (version_bytes v) ≤ length o₃
-        version_fit = rest_room o₂ (roles_from r 0) (version_bytes v) b room_53 o₃ d w
+      module _ (o₃ : List ℕ) (d : ℕ) (w : Put o₂ b (roles_from u.roles 0) d o₃) where
+        pub version_fit : d + length (version_bytes u.version) ≤ length o₃
+        version_fit = rest_room o₂ (roles_from u.roles 0) (version_bytes u.version) b room_53 o₃ d w
 
-        pub behind_put : (o₄ : List ℕ) (g : ℕ) → Put o₃ d (version_bytes v) g o₄ → Put o at (behind_51h (user_of c v i p r)) g o₄
+        pub behind_put : (o₄ : List ℕ) (g : ℕ) → Put o₃ d (version_bytes u.version) g o₄ → Put o at (behind_51h u) g o₄
         behind_put o₄ g x =
-            both_put o (item_bytes 0x52 c) behind_52 at h o₁ a q o₄ g
-            (both_put o₁ (count_bytes i p) behind_53 a room_52 o₂ b t o₄ g
-            (both_put o₂ (roles_from r 0) (version_bytes v) b room_53 o₃ d w o₄ g x))
+            both_put o (item_bytes 0x52 u.class) behind_52 at h o₁ a q o₄ g
+            (both_put o₁ (count_bytes u.invoked u.performed) behind_53 a room_52 o₂ b t o₄ g
+            (both_put o₂ (roles_from u.roles 0) (version_bytes u.version) b room_53 o₃ d w o₄ g x))
 
 pub ruleset behind_laws = (rules, class_item, fit_version, class_room, counts_fit, roles_fit, version_fit, behind_put)
 
@@ -181,15 +181,15 @@ head_is : (u : User) (n : ℕ) → n ≡ length (user_bytes u) → item_bytes 0x
 unfolding item_bytes
 head_is u n e = rw (← e, user_is u)
 
-module _ (o c v s : List ℕ) (at n i p : ℕ) (e : n ≡ length (user_bytes (user_of c v i p s))) (h : at + 4 + n ≤ length o)
+module _ (o : List ℕ) (at n : ℕ) (u : User) (e : n ≡ length (user_bytes u)) (h : at + 4 + n ≤ length o)
     (o₁ : List ℕ) (a : ℕ) (q : Placed o at (0x50 ∷ 0 ∷ n / 256 ∷ n % 256 ∷ 0x51 ∷ 0 ∷ 0 ∷ 4 ∷ 0 ∷ 0 ∷ 0x40 ∷ 0 ∷ []) a o₁) where
-  all_room : at + (length (head n) + length (behind_51h (user_of c v i p s))) ≤ length o
-  all_room = let l = user_long (user_of c v i p s) in omega arith
+  all_room : at + (length (head n) + length (behind_51h u)) ≤ length o
+  all_room = let l = user_long u in omega arith
 
-  pub behind_room : a + length (behind_51h (user_of c v i p s)) ≤ length o₁
-  behind_room = next_room o at (head n) (behind_51h (user_of c v i p s)) o₁ a all_room (placed_put o at (head n) q (let l = all_room in omega arith))
+  pub behind_room : a + length (behind_51h u) ≤ length o₁
+  behind_room = next_room o at (head n) (behind_51h u) o₁ a all_room (placed_put o at (head n) q (let l = all_room in omega arith))
 
-  pub user_put : (o₂ : List ℕ) (r : ℕ) → Put o₁ a (behind_51h (user_of c v i p s)) r o₂ → Put o at (item_bytes 0x50 (user_bytes (user_of c v i p s))) r o₂
-  user_put o₂ r t = rw (head_is (user_of c v i p s) n e) (next_put o at (head n) (behind_51h (user_of c v i p s)) o₁ a all_room (placed_put o at (head n) q (let l = all_room in omega arith)) t)
+  pub user_put : (o₂ : List ℕ) (r : ℕ) → Put o₁ a (behind_51h u) r o₂ → Put o at (item_bytes 0x50 (user_bytes u)) r o₂
+  user_put o₂ r t = rw (head_is u n e) (next_put o at (head n) (behind_51h u) o₁ a all_room (placed_put o at (head n) q (let l = all_room in omega arith)) t)
 
 pub ruleset put_user_laws = (rules, behind_room, user_put)

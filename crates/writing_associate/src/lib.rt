@@ -10,12 +10,33 @@ mod user;
 ghost use Rattle.std.specs.Prelude.{◌≡◌, ◌&&◌, ◌++◌, length, replicate};
 ghost use Rattle.numbers.specs.Lengths.{TITLE};
 ghost use Rattle.names.specs.Name.{name_ok};
-ghost use Rattle.user_items.specs.Sent.{user_of, user_good};
-ghost use Rattle.writing.specs.Fields.{rq_of, ac_of, rq_good, ac_good};
-ghost use Rattle.writing.specs.Form.{rq_form, ac_form, Wrote};
+ghost use Rattle.user_items.specs.Sent.{user_said, user_good};
+ghost use Rattle.writing.specs.Fields.{rq_good, ac_good};
+ghost use Rattle.writing.specs.Form.{rq_form, ac_form, Wrote, sent};
+ghost use Rattle.writing_associate.specs.Said.{rq_said, ac_said};
 
-use crate::pdu::write_pdu;
-use writing::Sent;
+use crate::pdu::{Associate, write_pdu};
+use numbers::Refusal;
+use user_items::User;
+
+// The contents of an A-ASSOCIATE-RQ: the titles, the application name, the user information, the proposal sheet.
+#[derive(Clone, Copy)]
+pub struct Request<'a> {
+    pub called: &'a [u8],
+    pub calling: &'a [u8],
+    pub application: &'a [u8],
+    pub user: User<'a>,
+    pub sheet: &'a [u8],
+}
+
+// The contents of an A-ASSOCIATE-AC: the RQ's PDU bytes 11 to 74, the application name, the user information, the answer sheet.
+#[derive(Clone, Copy)]
+pub struct Accept<'a> {
+    pub echoed: &'a [u8],
+    pub application: &'a [u8],
+    pub user: User<'a>,
+    pub sheet: &'a [u8],
+}
 
 // The 64 bytes behind the version of an RQ: the titles, and 32 reserved bytes.
 fn titles_of(called: &[u8], calling: &[u8]) -> [u8; 64]
@@ -29,167 +50,62 @@ fn titles_of(called: &[u8], calling: &[u8]) -> [u8; 64]
 }
 
 // What an RQ and an AC both carry beside their contexts: the application name and the user information.
-fn parts_good(
-    application: &[u8],
-    class_uid: &[u8],
-    version_name: &[u8],
-    invoked: u16,
-    performed: u16,
-    roles: &[u8],
-) -> bool
-    ensures { result ≡ (name_ok application.now && user_good (user_of class_uid.now version_name.now invoked performed roles.now)) }
+fn parts_good(application: &[u8], user: User<'_>) -> bool
+    ensures { result ≡ (name_ok application.now && user_good (user_said user.entry)) }
 {
-    if !names::name_ok(application) {
-        return false;
-    }
-    user_items::user_good(class_uid, version_name, invoked, performed, roles)
+    names::name_ok(application) && user_items::user_good(user)
 }
 
-fn request_good(
-    called: &[u8],
-    calling: &[u8],
-    application: &[u8],
-    class_uid: &[u8],
-    version_name: &[u8],
-    invoked: u16,
-    performed: u16,
-    roles: &[u8],
-    sheet: &[u8],
-) -> bool
-    ensures { result ≡ rq_good (rq_of called.now calling.now application.now (user_of class_uid.now version_name.now invoked performed roles.now) sheet.now) }
+#[tactic(auto, unfolding(writing::specs::Fields::rq_good))]
+fn request_good(fields: Request<'_>) -> bool
+    ensures { result ≡ rq_good (rq_said fields.entry) }
 {
-    if !titles::title_ok(called) {
-        return false;
-    }
-    if !titles::title_ok(calling) {
-        return false;
-    }
-    if !parts_good(
-        application,
-        class_uid,
-        version_name,
-        invoked,
-        performed,
-        roles,
-    ) {
-        return false;
-    }
-    sheets::proposal_ok(sheet)
+    titles::title_ok(fields.called)
+        && titles::title_ok(fields.calling)
+        && parts_good(fields.application, fields.user)
+        && sheets::proposal_ok(fields.sheet)
 }
 
-// Writes an A-ASSOCIATE-RQ to the start of the output.
-pub fn write_request(
-    called: &[u8],
-    calling: &[u8],
-    application: &[u8],
-    class_uid: &[u8],
-    version_name: &[u8],
-    invoked: u16,
-    performed: u16,
-    roles: &[u8],
-    sheet: &[u8],
-    out: &mut [u8],
-) -> Sent
-    ensures { Wrote (rq_form (rq_of called.now calling.now application.now (user_of class_uid.now version_name.now invoked performed roles.now) sheet.now)) out.old result out.new }
+// Writes an A-ASSOCIATE-RQ to the start of the output, and says how many bytes it has.
+pub fn write_request(fields: Request<'_>, out: &mut [u8]) -> Result<usize, Refusal>
+    ensures { Wrote (rq_form (rq_said fields.entry)) out.old (sent result) out.new }
 {
-    if !request_good(
-        called,
-        calling,
-        application,
-        class_uid,
-        version_name,
-        invoked,
-        performed,
-        roles,
-        sheet,
-    ) {
-        return Sent {
-            refusal: numbers::BAD_CONTENTS,
-            count: 0,
-        };
+    if !request_good(fields) {
+        return Err(Refusal::BadContents);
     }
-    let middle = titles_of(called, calling);
-    write_pdu(
-        false,
-        &middle,
-        application,
-        class_uid,
-        version_name,
-        invoked,
-        performed,
-        roles,
-        sheet,
-        out,
-    )
+    let middle = titles_of(fields.called, fields.calling);
+    let f = Associate {
+        answer: false,
+        middle: &middle,
+        application: fields.application,
+        user: fields.user,
+        sheet: fields.sheet,
+    };
+    write_pdu(f, out)
 }
 
-fn accept_good(
-    echoed: &[u8],
-    application: &[u8],
-    class_uid: &[u8],
-    version_name: &[u8],
-    invoked: u16,
-    performed: u16,
-    roles: &[u8],
-    sheet: &[u8],
-) -> bool
-    ensures { result ≡ ac_good (ac_of echoed.now application.now (user_of class_uid.now version_name.now invoked performed roles.now) sheet.now) }
+#[tactic(auto, unfolding(writing::specs::Fields::ac_good))]
+fn accept_good(fields: Accept<'_>) -> bool
+    ensures { result ≡ ac_good (ac_said fields.entry) }
 {
-    if echoed.len() != 64 {
-        return false;
-    }
-    if !parts_good(
-        application,
-        class_uid,
-        version_name,
-        invoked,
-        performed,
-        roles,
-    ) {
-        return false;
-    }
-    sheets::answers_ok(sheet)
+    fields.echoed.len() == 64
+        && parts_good(fields.application, fields.user)
+        && sheets::answers_ok(fields.sheet)
 }
 
-// Writes an A-ASSOCIATE-AC to the start of the output; `echoed` are the RQ's PDU bytes 11 to 74.
-pub fn write_accept(
-    echoed: &[u8],
-    application: &[u8],
-    class_uid: &[u8],
-    version_name: &[u8],
-    invoked: u16,
-    performed: u16,
-    roles: &[u8],
-    sheet: &[u8],
-    out: &mut [u8],
-) -> Sent
-    ensures { Wrote (ac_form (ac_of echoed.now application.now (user_of class_uid.now version_name.now invoked performed roles.now) sheet.now)) out.old result out.new }
+// Writes an A-ASSOCIATE-AC to the start of the output, and says how many bytes it has.
+pub fn write_accept(fields: Accept<'_>, out: &mut [u8]) -> Result<usize, Refusal>
+    ensures { Wrote (ac_form (ac_said fields.entry)) out.old (sent result) out.new }
 {
-    if !accept_good(
-        echoed,
-        application,
-        class_uid,
-        version_name,
-        invoked,
-        performed,
-        roles,
-        sheet,
-    ) {
-        return Sent {
-            refusal: numbers::BAD_CONTENTS,
-            count: 0,
-        };
+    if !accept_good(fields) {
+        return Err(Refusal::BadContents);
     }
-    write_pdu(
-        true,
-        echoed,
-        application,
-        class_uid,
-        version_name,
-        invoked,
-        performed,
-        roles,
-        sheet,
-        out,
-    )
+    let f = Associate {
+        answer: true,
+        middle: fields.echoed,
+        application: fields.application,
+        user: fields.user,
+        sheet: fields.sheet,
+    };
+    write_pdu(f, out)
 }

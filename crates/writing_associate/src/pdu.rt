@@ -1,28 +1,38 @@
 // What an A-ASSOCIATE-RQ and an A-ASSOCIATE-AC have in common: the fixed part, one 10H, the contexts, one 50H.
-ghost use Rattle.std.specs.Prelude.{◌≡◌, false, ◌+◌, ◌%◌, ◌≤◌, length};
-ghost use Rattle.numbers.specs.Lengths.{LONGEST, RECORD};
+ghost use Rattle.std.specs.Prelude.{◌≡◌, ◌+◌, ◌≤◌, length};
+ghost use Rattle.numbers.specs.Lengths.{LONGEST};
 ghost use Rattle.octets.specs.Private.Put.{Put};
-ghost use Rattle.user_items.specs.Sent.{user_of, user_bytes};
 ghost use Rattle.writing.specs.Wire.{associate_bytes};
-ghost use Rattle.writing.specs.Form.{Wrote, good_form};
-ghost use Rattle.writing_associate.specs.Private.ContextItems.{context_bytes, capped};
-ghost use Rattle.writing_associate.specs.Private.Pdu.{pdu_kind, pdu_of, base as base_of, item_part, fixed_part, Fit, Known, Measured};
+ghost use Rattle.writing.specs.Form.{Wrote, sent, good_form};
+ghost use Rattle.writing_associate.specs.Private.ContextItems.{capped};
+ghost use Rattle.writing_associate.specs.Private.Pdu.{associate_said, pdu_kind, pdu_of, contexts_of, base as base_of, item_part, fixed_part, Fit, Known, Measured};
 
 use crate::contexts::{measure, put_contexts};
 use crate::item::put_item;
 use crate::user::{put_user, user_size};
-use writing::Sent;
+use numbers::{Kind, Refusal};
+use user_items::User;
+
+// An RQ or an AC to be written, with the 64 bytes behind its version. `answer`: it is an AC.
+#[derive(Clone, Copy)]
+pub(crate) struct Associate<'a> {
+    pub(crate) answer: bool,
+    pub(crate) middle: &'a [u8],
+    pub(crate) application: &'a [u8],
+    pub(crate) user: User<'a>,
+    pub(crate) sheet: &'a [u8],
+}
 
 // The PDU-length, where `user` is the length of the 50H's body. Any above the limit gives 16,385.
-fn pdu_size(answer: bool, application: &[u8], user: usize, sheet: &[u8]) -> usize
-    requires { (length application.now ≤ 64) × (user ≤ LONGEST + 1) × (length sheet.now % RECORD ≡ 0) }
-    ensures { result ≡ capped (base_of application.now user + length (context_bytes answer false sheet.now 0)) }
+fn pdu_size(f: Associate<'_>, user: usize) -> usize
+    requires { (Fit (associate_said f)) × (user ≤ LONGEST + 1) }
+    ensures { result ≡ capped (base_of (associate_said f.entry) user + length (contexts_of (associate_said f.entry))) }
 {
-    let base = 68 + (4 + application.len()) + (4 + user);
+    let base = 68 + (4 + f.application.len()) + (4 + user);
     if numbers::LONGEST < base {
         return numbers::LONGEST + 1;
     }
-    measure(answer, sheet, base)
+    measure(f.answer, f.sheet, base)
 }
 
 fn put_fixed(out: &mut [u8], kind: u8, n: usize, middle: &[u8]) -> usize
@@ -36,125 +46,47 @@ fn put_fixed(out: &mut [u8], kind: u8, n: usize, middle: &[u8]) -> usize
 }
 
 // The items, where `user` is the length of the 50H's body.
-fn put_items(
-    out: &mut [u8],
-    at: usize,
-    user: usize,
-    answer: bool,
-    application: &[u8],
-    class_uid: &[u8],
-    version_name: &[u8],
-    invoked: u16,
-    performed: u16,
-    roles: &[u8],
-    sheet: &[u8],
-) -> usize
-    requires { Known answer application.now (user_of class_uid.now version_name.now invoked performed roles.now) sheet.now user at (length out.old) }
-    ensures { Put out.old at (item_part answer application.now (user_bytes (user_of class_uid.now version_name.now invoked performed roles.now)) sheet.now) result out.new }
+fn put_items(out: &mut [u8], at: usize, user: usize, f: Associate<'_>) -> usize
+    requires { Known (associate_said f) user at (length out.old) }
+    ensures { Put out.old at (item_part (associate_said f.entry)) result out.new }
 {
-    let a = put_item(out, at, 0x10, application);
-    let b = put_contexts(out, a, answer, sheet);
-    put_user(
-        out,
-        b,
-        user,
-        class_uid,
-        version_name,
-        invoked,
-        performed,
-        roles,
-    )
+    let a = put_item(out, at, 0x10, f.application);
+    let b = put_contexts(out, a, f.answer, f.sheet);
+    put_user(out, b, user, f.user)
 }
 
 fn pdu_kind(answer: bool) -> u8
     ensures { result ≡ pdu_kind answer }
 {
-    if answer {
-        return numbers::ASSOCIATE_AC;
-    }
-    numbers::ASSOCIATE_RQ
+    let kind = if answer {
+        Kind::AssociateAc
+    } else {
+        Kind::AssociateRq
+    };
+    kind as u8
 }
 
 // A PDU of n bytes behind its header.
-fn put_pdu(
-    out: &mut [u8],
-    n: usize,
-    user: usize,
-    answer: bool,
-    middle: &[u8],
-    application: &[u8],
-    class_uid: &[u8],
-    version_name: &[u8],
-    invoked: u16,
-    performed: u16,
-    roles: &[u8],
-    sheet: &[u8],
-) -> usize
-    requires { Measured answer middle.now application.now (user_of class_uid.now version_name.now invoked performed roles.now) sheet.now n user (length out.old) }
-    ensures { Put out.old 0 (associate_bytes (pdu_of answer middle.now application.now (user_bytes (user_of class_uid.now version_name.now invoked performed roles.now)) sheet.now)) result out.new }
+fn put_pdu(out: &mut [u8], n: usize, user: usize, f: Associate<'_>) -> usize
+    requires { Measured (associate_said f) n user (length out.old) }
+    ensures { Put out.old 0 (associate_bytes (pdu_of (associate_said f.entry))) result out.new }
 {
-    let a = put_fixed(out, pdu_kind(answer), n, middle);
-    put_items(
-        out,
-        a,
-        user,
-        answer,
-        application,
-        class_uid,
-        version_name,
-        invoked,
-        performed,
-        roles,
-        sheet,
-    )
+    let a = put_fixed(out, pdu_kind(f.answer), n, f.middle);
+    put_items(out, a, user, f)
 }
 
 // Writes an RQ or an AC whose contents are good: measured first, then written.
-pub(crate) fn write_pdu(
-    answer: bool,
-    middle: &[u8],
-    application: &[u8],
-    class_uid: &[u8],
-    version_name: &[u8],
-    invoked: u16,
-    performed: u16,
-    roles: &[u8],
-    sheet: &[u8],
-    out: &mut [u8],
-) -> Sent
-    requires { Fit middle.now application.now (user_of class_uid.now version_name.now invoked performed roles.now) sheet.now }
-    ensures { Wrote (good_form (associate_bytes (pdu_of answer middle.now application.now (user_bytes (user_of class_uid.now version_name.now invoked performed roles.now)) sheet.now))) out.old result out.new }
+pub(crate) fn write_pdu(f: Associate<'_>, out: &mut [u8]) -> Result<usize, Refusal>
+    requires { Fit (associate_said f) }
+    ensures { Wrote (good_form (associate_bytes (pdu_of (associate_said f.entry)))) out.old (sent result) out.new }
 {
-    let user = user_size(class_uid, version_name, invoked, performed, roles);
-    let n = pdu_size(answer, application, user, sheet);
+    let user = user_size(f.user);
+    let n = pdu_size(f, user);
     if numbers::LONGEST < n {
-        return Sent {
-            refusal: numbers::LONG_PDU,
-            count: 0,
-        };
+        return Err(Refusal::LongPdu);
     }
     if out.len() < n + numbers::HEADER {
-        return Sent {
-            refusal: numbers::SHORT_OUTPUT,
-            count: 0,
-        };
+        return Err(Refusal::ShortOutput);
     }
-    let k = put_pdu(
-        out,
-        n,
-        user,
-        answer,
-        middle,
-        application,
-        class_uid,
-        version_name,
-        invoked,
-        performed,
-        roles,
-        sheet,
-    );
-    Sent {
-        refusal: numbers::NOT_REFUSED,
-        count: k,
-    }
+    Ok(put_pdu(out, n, user, f))
 }

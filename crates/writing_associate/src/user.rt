@@ -3,12 +3,13 @@ ghost use Rattle.std.specs.Prelude.{◌≡◌, ◌&&◌, eqb, ◌+◌, ◌≤◌
 ghost use Rattle.numbers.specs.Lengths.{LONGEST};
 ghost use Rattle.octets.specs.Private.Put.{Put};
 ghost use Rattle.items.specs.Wire.{item_bytes};
-ghost use Rattle.user_items.specs.Sent.{user_of, user_bytes};
+ghost use Rattle.user_items.specs.Sent.{user_said, user_bytes};
 ghost use Rattle.writing_associate.specs.Private.ContextItems.{capped};
 ghost use Rattle.writing_associate.specs.Private.UserItems.{count_bytes, version_bytes, behind_51h, UserFit};
 
 use crate::item::put_item;
 use crate::role_items::{put_roles, roles_size};
+use user_items::User;
 
 // The counts that an absent 53H means.
 fn one_and_one(invoked: u16, performed: u16) -> bool
@@ -40,18 +41,13 @@ fn version_size(version_name: &[u8]) -> usize
 }
 
 // The bytes of the sub-items, or 16,385 for any number above the limit.
-pub(crate) fn user_size(
-    class_uid: &[u8],
-    version_name: &[u8],
-    invoked: u16,
-    performed: u16,
-    roles: &[u8],
-) -> usize
-    requires { UserFit class_uid.now version_name.now }
-    ensures { result ≡ capped (length (user_bytes (user_of class_uid.now version_name.now invoked performed roles.now))) }
+pub(crate) fn user_size(user: User<'_>) -> usize
+    requires { UserFit (user_said user) }
+    ensures { result ≡ capped (length (user_bytes (user_said user.entry))) }
 {
-    let base = 12 + class_uid.len() + counts_size(invoked, performed) + version_size(version_name);
-    roles_size(roles, base)
+    let counts = counts_size(user.invoked, user.performed);
+    let base = 12 + user.class_uid.len() + counts + version_size(user.version_name);
+    roles_size(user.roles, base)
 }
 
 fn put_counts(out: &mut [u8], at: usize, invoked: u16, performed: u16) -> usize
@@ -78,37 +74,20 @@ fn put_version(out: &mut [u8], at: usize, version_name: &[u8]) -> usize
 }
 
 // The sub-items behind the 51H, in rising type order.
-fn put_behind_51(
-    out: &mut [u8],
-    at: usize,
-    class_uid: &[u8],
-    version_name: &[u8],
-    invoked: u16,
-    performed: u16,
-    roles: &[u8],
-) -> usize
-    requires { (UserFit class_uid.now version_name.now) × (at + length (behind_51h (user_of class_uid.now version_name.now invoked performed roles.now)) ≤ length out.old) }
-    ensures { Put out.old at (behind_51h (user_of class_uid.now version_name.now invoked performed roles.now)) result out.new }
+fn put_behind_51(out: &mut [u8], at: usize, user: User<'_>) -> usize
+    requires { (UserFit (user_said user)) × (at + length (behind_51h (user_said user)) ≤ length out.old) }
+    ensures { Put out.old at (behind_51h (user_said user.entry)) result out.new }
 {
-    let a = put_item(out, at, 0x52, class_uid);
-    let b = put_counts(out, a, invoked, performed);
-    let c = put_roles(out, b, roles);
-    put_version(out, c, version_name)
+    let a = put_item(out, at, 0x52, user.class_uid);
+    let b = put_counts(out, a, user.invoked, user.performed);
+    let c = put_roles(out, b, user.roles);
+    put_version(out, c, user.version_name)
 }
 
 // The 50H of n bytes: our maximum length, and the sub-items behind it.
-pub(crate) fn put_user(
-    out: &mut [u8],
-    at: usize,
-    n: usize,
-    class_uid: &[u8],
-    version_name: &[u8],
-    invoked: u16,
-    performed: u16,
-    roles: &[u8],
-) -> usize
-    requires { (UserFit class_uid.now version_name.now) × (n ≡ length (user_bytes (user_of class_uid.now version_name.now invoked performed roles.now))) × (n ≤ LONGEST) × (at + 4 + n ≤ length out.old) }
-    ensures { Put out.old at (item_bytes 0x50 (user_bytes (user_of class_uid.now version_name.now invoked performed roles.now))) result out.new }
+pub(crate) fn put_user(out: &mut [u8], at: usize, n: usize, user: User<'_>) -> usize
+    requires { (UserFit (user_said user)) × (n ≡ length (user_bytes (user_said user))) × (n ≤ LONGEST) × (at + 4 + n ≤ length out.old) }
+    ensures { Put out.old at (item_bytes 0x50 (user_bytes (user_said user.entry))) result out.new }
 {
     let head = [
         0x50,
@@ -125,5 +104,5 @@ pub(crate) fn put_user(
         0,
     ];
     let a = octets::put(out, at, &head);
-    put_behind_51(out, a, class_uid, version_name, invoked, performed, roles)
+    put_behind_51(out, a, user)
 }

@@ -2,12 +2,12 @@
 use Rattle.std.specs.Prelude.{ℕ, cond, List, [], ◌∷◌, ◌++◌, eqb}
 use Rattle.laws.specs.Refusals.{first_due}
 use Rattle.numbers.specs.Refusals.{NOT-REFUSED, BLANK-CELL}
-use Rattle.writing.specs.declared.Sent.{Sent}
 use Rattle.association.specs.declared.Assoc.{Assoc}
 use Rattle.association.specs.declared.Answer.{Answer}
 use Rattle.association.specs.Record.{standing}
 use Rattle.association.specs.Refusals.{record_tests, refused_with}
 use Rattle.association.specs.Performing.{brings_nothing, leaving, after}
+use Rattle.writing.specs.Form.{Sent, sent}
 
 -- 6, 3, 6 for L, and 1
 unfoldable pub gate_refusal : Assoc → List ℕ → ℕ → ℕ

@@ -18,6 +18,6 @@ abbrev pub behind_51h : User → List ℕ
 behind_51h u = item_bytes 0x52 u.class ++ (count_bytes u.invoked u.performed ++ (roles_from u.roles 0 ++ version_bytes u.version))
 
 -- what is known of it when it is measured
-pub record UserFit (class version : List ℕ) : Type 0 where
-  pub class_short : length class ≤ 64
-  pub version_short : length version ≤ 16
+pub record UserFit (u : User) : Type 0 where
+  pub class_short : length u.class ≤ 64
+  pub version_short : length u.version ≤ 16
