@@ -7,12 +7,12 @@ use association::{Answer, Assoc};
 
 #[derive(Drop)]
 pub(crate) struct Host {
-    pub(crate) assoc: Assoc,
-    pub(crate) gather: Buffer<BUFFER>,
-    pub(crate) out: Buffer<BUFFER>,
+    assoc: Assoc,
+    gather: Buffer<BUFFER>,
+    out: Buffer<BUFFER>,
 }
 
-// The RECORD of a machine call: `=`, or what the call starts from.
+// The RECORD of a machine call: `=`, or what the call starts from. No Option: it stands in the Option that says whether the words are a RECORD.
 #[derive(Clone, Copy)]
 pub(crate) enum Record<'a> {
     Same,
@@ -63,8 +63,8 @@ impl Host {
         }
     }
 
-    // What a RECORD says, before the call.
-    pub(crate) fn start(&mut self, record: Record) {
+    // What a RECORD says.
+    fn start(&mut self, record: Record) {
         if let Record::New {
             assoc,
             gather_len,
@@ -78,10 +78,14 @@ impl Host {
         }
     }
 
-    // Keeps the record after a call, and prints the answer, the record and the digests of both buffers.
-    pub(crate) fn told(&mut self, rt: &impl Print, answer: Answer) {
-        let told = answer.told;
-        let assoc = answer.assoc;
+    // A machine call: from what its RECORD says on, it is lent both buffers. Prints the answer, the record after it and the digests of both buffers.
+    pub(crate) fn call<F>(&mut self, rt: &impl Print, record: Record, call: F)
+    where
+        F: FnOnce(Assoc, &mut [u8], &mut [u8]) -> Answer,
+        requires { F.IsAlwaysCallable call }
+    {
+        self.start(record);
+        let Answer { told, assoc } = call(self.assoc, self.gather.lend(), self.out.lend());
         self.assoc = assoc;
         print(
             rt,

@@ -8,9 +8,9 @@ pub(crate) fn receive(rt: &impl Print, mut words: Words, host: &mut Host) -> Opt
     let record = Record::read(&mut words)?;
     let piece = words.bytes()?;
     words.end()?;
-    host.start(record);
-    let answer = receiving::receive(host.assoc, host.gather.lend(), piece, host.out.lend());
-    host.told(rt, answer);
+    host.call(rt, record, |a, gather, out| {
+        receiving::receive(a, gather, piece, out)
+    });
     Some(())
 }
 
@@ -19,58 +19,58 @@ pub(crate) fn event(rt: &impl Print, mut words: Words, host: &mut Host) -> Optio
     let record = Record::read(&mut words)?;
     let number = words.byte()?;
     words.end()?;
-    host.start(record);
-    let answer = requests::event(host.assoc, number, host.gather.lend(), host.out.lend());
-    host.told(rt, answer);
+    host.call(rt, record, |a, gather, out| {
+        requests::event(a, number, gather, out)
+    });
     Some(())
 }
 
 // c RECORD CALLED CALLING APPLICATION USER SHEET
 pub(crate) fn confirm(rt: &impl Print, mut words: Words, host: &mut Host) -> Option<()> {
     let record = Record::read(&mut words)?;
-    let request = request_in(&mut words)?;
+    let fields = request_in(&mut words)?;
     words.end()?;
-    host.start(record);
-    let user = request.user;
-    let answer = requests::confirm(
-        host.assoc,
-        request.called,
-        request.calling,
-        request.application,
-        user.class_uid,
-        user.version_name,
-        user.invoked,
-        user.performed,
-        user.roles,
-        request.sheet,
-        host.gather.lend(),
-        host.out.lend(),
-    );
-    host.told(rt, answer);
+    host.call(rt, record, |a, gather, out| {
+        let user = fields.user;
+        requests::confirm(
+            a,
+            fields.called,
+            fields.calling,
+            fields.application,
+            user.class_uid,
+            user.version_name,
+            user.invoked,
+            user.performed,
+            user.roles,
+            fields.sheet,
+            gather,
+            out,
+        )
+    });
     Some(())
 }
 
 // a RECORD ECHOED APPLICATION USER SHEET
 pub(crate) fn accept(rt: &impl Print, mut words: Words, host: &mut Host) -> Option<()> {
     let record = Record::read(&mut words)?;
-    let accept = accept_in(&mut words)?;
+    let fields = accept_in(&mut words)?;
     words.end()?;
-    host.start(record);
-    let user = accept.user;
-    let answer = requests::accept(
-        host.assoc,
-        accept.echoed,
-        accept.application,
-        user.class_uid,
-        user.version_name,
-        user.invoked,
-        user.performed,
-        user.roles,
-        accept.sheet,
-        host.gather.lend(),
-        host.out.lend(),
-    );
-    host.told(rt, answer);
+    host.call(rt, record, |a, gather, out| {
+        let user = fields.user;
+        requests::accept(
+            a,
+            fields.echoed,
+            fields.application,
+            user.class_uid,
+            user.version_name,
+            user.invoked,
+            user.performed,
+            user.roles,
+            fields.sheet,
+            gather,
+            out,
+        )
+    });
     Some(())
 }
 
@@ -81,10 +81,9 @@ pub(crate) fn reject(rt: &impl Print, mut words: Words, host: &mut Host) -> Opti
     let source = words.byte()?;
     let reason = words.byte()?;
     words.end()?;
-    host.start(record);
-    let gather = host.gather.lend();
-    let answer = requests::reject(host.assoc, res, source, reason, gather, host.out.lend());
-    host.told(rt, answer);
+    host.call(rt, record, |a, gather, out| {
+        requests::reject(a, res, source, reason, gather, out)
+    });
     Some(())
 }
 
@@ -93,8 +92,8 @@ pub(crate) fn send(rt: &impl Print, mut words: Words, host: &mut Host) -> Option
     let record = Record::read(&mut words)?;
     let items = words.bytes()?;
     words.end()?;
-    host.start(record);
-    let answer = requests::send(host.assoc, items, host.gather.lend(), host.out.lend());
-    host.told(rt, answer);
+    host.call(rt, record, |a, gather, out| {
+        requests::send(a, items, gather, out)
+    });
     Some(())
 }

@@ -8,18 +8,24 @@ use reading::Associate;
 pub(crate) fn kind(rt: &impl Print, mut words: Words) -> Option<()> {
     let pdu = words.bytes()?;
     words.end()?;
-    print(
-        rt,
-        Numbers(&[
-            u64::from(judging::kind_of(pdu)),
-            u64::from(judging::acceptable(pdu)),
-            u64::from(judging::maximum_of(pdu)),
-        ]),
-    );
+    let kind = judging::kind_of(pdu);
+    let acceptable = u8::from(judging::acceptable(pdu));
+    let maximum = judging::maximum_of(pdu);
+    let _ = println!(rt; "{kind} {acceptable} {maximum}");
     Some(())
 }
 
-fn print_fields(rt: &impl Print, f: Associate, sheet: &Buffer<SHEET>, roles: &Buffer<SHEET>) {
+// Q PDU SHEETLEN ROLESLEN, A PDU SHEETLEN ROLESLEN
+pub(crate) fn associate<F>(rt: &impl Print, mut words: Words, read: F) -> Option<()>
+where
+    F: FnOnce(&[u8], &mut [u8], &mut [u8]) -> Associate,
+    requires { F.IsAlwaysCallable read }
+{
+    let pdu = words.bytes()?;
+    let mut sheet: Buffer<SHEET> = Buffer::new(IN_SHEET, words.sheet_length()?);
+    let mut roles: Buffer<SHEET> = Buffer::new(IN_SHEET, words.sheet_length()?);
+    words.end()?;
+    let f = read(pdu, sheet.lend(), roles.lend());
     print(
         rt,
         Numbers(&[
@@ -40,27 +46,6 @@ fn print_fields(rt: &impl Print, f: Associate, sheet: &Buffer<SHEET>, roles: &Bu
             roles.digest(),
         ]),
     );
-}
-
-// Q PDU SHEETLEN ROLESLEN
-pub(crate) fn request(rt: &impl Print, mut words: Words) -> Option<()> {
-    let pdu = words.bytes()?;
-    let mut sheet = Buffer::new(IN_SHEET, words.sheet_length()?);
-    let mut roles = Buffer::new(IN_SHEET, words.sheet_length()?);
-    words.end()?;
-    let fields = reading::read_request(pdu, sheet.lend(), roles.lend());
-    print_fields(rt, fields, &sheet, &roles);
-    Some(())
-}
-
-// A PDU SHEETLEN ROLESLEN
-pub(crate) fn accept(rt: &impl Print, mut words: Words) -> Option<()> {
-    let pdu = words.bytes()?;
-    let mut sheet = Buffer::new(IN_SHEET, words.sheet_length()?);
-    let mut roles = Buffer::new(IN_SHEET, words.sheet_length()?);
-    words.end()?;
-    let fields = reading::read_accept(pdu, sheet.lend(), roles.lend());
-    print_fields(rt, fields, &sheet, &roles);
     Some(())
 }
 
