@@ -1,15 +1,16 @@
 -- What the items of a valid RQ or AC have.
 -- Assumes nothing.
-use Prim.Native.Nat.{ℕ, ◌≤◌}
+use Prim.Native.Nat.{ℕ, ◌-◌, ◌%◌, ◌≤◌, ◌<◌}
 use mathlib.Core.Bool.{Bool, true, false, ◌&&◌, and-true}
 use mathlib.Core.List.{List, [], ◌∷◌}
 use mathlib.Core.Path.{◌≡◌, refl, sym, ◌∙◌}
 use native.Mathlib.Omega.{arith}
-use lib.ListN.{length, drop, get_or}
+use lib.ListN.{length, take, drop, get_or}
 use lib.Dec.{leb, eqb}
-use borrow.Author.Tests.{leb-true, eqb-true}
+use borrow.Author.Tests.{leb-true, le-leb, lt-leb, eqb-true, ne_eqb}
 use Rattle.laws.specs.Lists.{all, among, distinct}
 use Rattle.laws.proofs.Booleans.{left_of, right_of}
+use Rattle.laws.proofs.Places.{part_tail}
 use Rattle.names.specs.Name.{name_ok}
 use Rattle.items.specs.Items.{Walk, walk, filled, bodies, first, good_bodies}
 use Rattle.items.proofs.HoldLaws.{first_good, held_filled, held_good}
@@ -17,9 +18,25 @@ use Rattle.numbers.specs.Results.{ACCEPTED}
 use Rattle.octets.specs.Octets.{odd}
 use Rattle.user_items.specs.Kinds.{good_50h}
 use Rattle.contents.specs.Contents.{top_known, answer_known, named, one, subs_ok, good_20h, transfer_item_ok, good_21h, context_good, top_good, top_ok, ids, items_ok}
+use Rattle.items.specs.Private.Rules.{keeps}
+use Rattle.contents.specs.Private.Order.{sub_rule}
+use Rattle.contents.proofs.OrderLaws.{sub_is}
 use Rattle.contents.proofs.Meaning.{Sub, subs_some, subs_hold, sub_counts, Top, top_some, top_holds, top_counts}
 
 -- ---- a good 20H
+-- as the code tests it
+pub short_20 : (b : List ℕ) → length b < 4 → good_20h b ≡ false
+unfolding good_20h
+short_20 b h = rw (lt-leb 4 (length b) h)
+
+pub even_20 : (b : List ℕ) → 4 ≤ length b → (get_or b 0 0 % 2 ≡ 1 → ⊥) → good_20h b ≡ false
+unfolding good_20h
+even_20 b h n = rw (le-leb 4 (length b) h, ne_eqb (get_or b 0 0 % 2) 1 n)
+
+pub good_20_by : (b : List ℕ) (r : Bool) → 4 ≤ length b → get_or b 0 0 % 2 ≡ 1 → r ≡ keeps sub_rule 0 (walk (take (length b - 4) (drop 4 b))) → r ≡ good_20h b
+unfolding good_20h
+good_20_by b r h o e = rw (le-leb 4 (length b) h, o) (e ∙ rw (part_tail 4 b) (sub_is (walk (drop 4 b))))
+
 module _ (b : List ℕ) (g : good_20h b ≡ true) where
   parts_20 : (leb 4 (length b) && (odd (get_or b 0 0) && subs_ok (walk (drop 4 b)))) ≡ true
   unfolding good_20h

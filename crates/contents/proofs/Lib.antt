@@ -1,7 +1,7 @@
 pub mod IdLaws
+pub mod StageLaws
 pub mod OrderLaws
 pub mod Meaning
 pub mod GoodLaws
-pub mod ContentLaws
 pub mod Agree
 pub mod Examples

@@ -1,103 +1,83 @@
 // A context: 20H in an RQ, 21H in an AC.
 ghost use Rattle.std.specs.Prelude.{◌≡◌};
 ghost use Rattle.items.specs.Items.{walk};
-ghost use Rattle.contents.specs.Contents.{one, subs_ok, good_20h, transfer_item_ok, good_21h, context_good};
-ghost use Rattle.contents.specs.Private.Order.{sub_good};
+ghost use Rattle.contents.specs.Contents.{one, good_20h, transfer_item_ok, good_21h, context_good};
 
-use crate::order::next;
+use crate::order::{Holder, Order, in_order};
 
-// Whether a sub-item of a 20H may have this body.
-fn sub_good(t: u8, b: &[u8]) -> bool
-    ensures { result ≡ sub_good t b.now }
-{
-    if t == 0x30 {
-        return names::name_ok(b);
+// The sub-items of a 20H: one 30H, then one or more 40H, each with a name.
+#[derive(Drop)]
+struct Proposed;
+
+impl Holder for Proposed {
+    ghost use Rattle.contents.specs.Private.Order.{sub_good};
+    ghost use Rattle.contents.specs.Private.Stages.{sub_order};
+
+    ghost known = { λ p. sub_order };
+
+    ghost test = { λ p. sub_good };
+
+    fn order(&self) -> Order {
+        Order {
+            first: 0x30,
+            many: 0x40,
+            last: None,
+        }
     }
-    if t == 0x40 {
-        return names::name_ok(b);
+
+    #[tactic(auto, unfolding(crate::specs::Private::Order::sub_good))]
+    fn good(&self, t: u8, b: &[u8]) -> bool {
+        match t {
+            0x30 | 0x40 => names::name_ok(b),
+            _ => true,
+        }
     }
-    true
 }
 
-// Whether the sub-items of a 20H are one 30H, then one or more 40H, each with a name.
-fn subs_ok(s: &[u8]) -> bool
-    ensures { result ≡ subs_ok (walk s.now) }
-{
-    let mut at: usize = 0;
-    let mut st: u8 = 0;
-    while at < s.len() {
-        let e = items::end_at(s, at);
-        if e == 0 {
-            return false;
-        }
-        let t = s[at];
-        let a = at + 4;
-        if !sub_good(t, &s[a..e]) {
-            return false;
-        }
-        st = next(0x30, 0x40, 0x40, st, t);
-        at = e;
-    }
-    st == 2
-}
-
+#[tactic(auto, using(crate::proofs::GoodLaws::short_20, crate::proofs::GoodLaws::even_20))]
 fn proposed_ok(b: &[u8]) -> bool
     ensures { result ≡ good_20h b.now }
 {
-    if b.len() < 4 {
+    let [id, _, _, _, subs @ ..] = b else {
         return false;
-    }
-    let id = b[0];
-    if id % 2 != 1 {
-        return false;
-    }
-    subs_ok(&b[4..])
+    };
+    id % 2 == 1 && in_order(&Proposed, subs)
 }
 
 // Whether the items fill s and exactly one is of type t.
+#[tactic(auto, unfolding(crate::specs::Contents::one))]
 fn one_of(t: u8, s: &[u8]) -> bool
     ensures { result ≡ one t (walk s.now) }
 {
-    if !items::fills(s) {
-        return false;
-    }
-    items::count_of(t, s) == 1
+    items::fills(s) && items::count_of(t, s) == 1
 }
 
 // Whether this may follow the four bytes of a 21H with this result: behind a refused context anything may.
+#[tactic(auto, unfolding(crate::specs::Contents::transfer_item_ok), using(crate::proofs::GoodLaws::one_good))]
 fn transfer_item_ok(res: u8, s: &[u8]) -> bool
     ensures { result ≡ transfer_item_ok res (walk s.now) }
 {
-    if res != numbers::ACCEPTED {
-        return true;
-    }
-    if !one_of(0x40, s) {
-        return false;
-    }
-    names::name_ok(items::first_of(0x40, s))
+    res != numbers::ACCEPTED || (one_of(0x40, s) && names::name_ok(items::first_of(0x40, s)))
 }
 
+#[tactic(auto, unfolding(crate::specs::Contents::good_21h))]
 fn answered_ok(b: &[u8]) -> bool
     ensures { result ≡ good_21h b.now }
 {
-    if b.len() < 4 {
+    let [id, _, res, _, behind @ ..] = b else {
         return false;
-    }
-    if b[0] % 2 != 1 {
-        return false;
-    }
-    if b[2] > 4 {
-        return false;
-    }
-    transfer_item_ok(b[2], &b[4..])
+    };
+    id % 2 == 1 && *res <= 4 && transfer_item_ok(*res, behind)
 }
 
 // Whether a context of type k may have this body.
+#[tactic(auto, unfolding(crate::specs::Contents::context_good))]
 pub(crate) fn context_good(k: u8, b: &[u8]) -> bool
     ensures { result ≡ context_good k b.now }
 {
     if k == 0x20 {
-        return proposed_ok(b);
+        proposed_ok(b)
+    } else {
+        answered_ok(b)
     }
-    answered_ok(b)
 }

@@ -4,7 +4,7 @@ use mathlib.Core.Path.{refl, ap}
 use Prim.Native.Nat.{ℕ}
 use mathlib.Core.List.{List, []}
 use Rattle.laws.proofs.Agree.{agree, AgreesLent}
-use Rattle.reading.specs.declared.associate.Associate.{Associate}
+use Rattle.reading.specs.Associate.{Associate}
 use Rattle.assoc_bytes.specs.Handed.{Handed, handed}
 use Rattle.feohanna.specs.Fields.{associate, reject, abort, pdv_fields}
 use Rattle.feohanna.proofs.calls.feo_raw_receive as receive

@@ -1,10 +1,23 @@
 // The fields of each kind of PDU. Where a read is refused the numbers handed out are 0.
 ghost use Rattle.std.specs.Prelude.{◌≡◌};
 ghost use Rattle.numbers.specs.Kinds.{ASSOCIATE-RQ, ASSOCIATE-AC};
+ghost use Rattle.numbers.specs.Refusals.{refusal_in};
 ghost use Rattle.reading.specs.Associate.{Read};
 ghost use Rattle.reading.specs.Values.{reject_in, abort_in};
 ghost use Rattle.reading.specs.Data.{data_of, data_at};
 ghost use Rattle.feohanna.specs.Fields.{associate, reject, abort, pdv_fields};
+
+use numbers::Refusal;
+
+// A refusal's number, 0 for none.
+fn refusal_in<T: Copy>(read: Result<T, Refusal>) -> u8
+    ensures { result ≡ refusal_in read }
+{
+    match read {
+        Ok(_) => numbers::NOT_REFUSED,
+        Err(refusal) => refusal.number(),
+    }
+}
 
 #[unsafe(no_mangle)]
 pub extern "C" fn feo_raw_read_request(
@@ -29,20 +42,23 @@ pub extern "C" fn feo_raw_read_request(
         class_at.new class_len.new version_name_at.new version_name_len.new invoked.new performed.new role_records.new)
         sheet.new roles.new }
 {
-    let f = reading::read_request(pdu, sheet, roles);
+    let read = reading::read_request(pdu, sheet, roles);
+    let f = read.unwrap_or_default();
+    let class = f.class.unwrap_or_default();
+    let name = f.version_name.unwrap_or_default();
     *version = f.version;
-    *application_at = f.application_at;
-    *application_len = f.application_len;
+    *application_at = f.application.at;
+    *application_len = f.application.len;
     *maximum = f.maximum;
     *records = f.records;
-    *class_at = f.class_at;
-    *class_len = f.class_len;
-    *version_name_at = f.version_name_at;
-    *version_name_len = f.version_name_len;
+    *class_at = class.at;
+    *class_len = class.len;
+    *version_name_at = name.at;
+    *version_name_len = name.len;
     *invoked = f.invoked;
     *performed = f.performed;
     *role_records = f.roles;
-    f.refusal
+    refusal_in(read)
 }
 
 #[unsafe(no_mangle)]
@@ -68,20 +84,23 @@ pub extern "C" fn feo_raw_read_accept(
         class_at.new class_len.new version_name_at.new version_name_len.new invoked.new performed.new role_records.new)
         sheet.new roles.new }
 {
-    let f = reading::read_accept(pdu, sheet, roles);
+    let read = reading::read_accept(pdu, sheet, roles);
+    let f = read.unwrap_or_default();
+    let class = f.class.unwrap_or_default();
+    let name = f.version_name.unwrap_or_default();
     *version = f.version;
-    *application_at = f.application_at;
-    *application_len = f.application_len;
+    *application_at = f.application.at;
+    *application_len = f.application.len;
     *maximum = f.maximum;
     *records = f.records;
-    *class_at = f.class_at;
-    *class_len = f.class_len;
-    *version_name_at = f.version_name_at;
-    *version_name_len = f.version_name_len;
+    *class_at = class.at;
+    *class_len = class.len;
+    *version_name_at = name.at;
+    *version_name_len = name.len;
     *invoked = f.invoked;
     *performed = f.performed;
     *role_records = f.roles;
-    f.refusal
+    refusal_in(read)
 }
 
 #[unsafe(no_mangle)]
@@ -93,21 +112,23 @@ pub extern "C" fn feo_raw_read_reject(
 ) -> u8
     ensures { reject result res.new source.new reason.new ≡ reject_in pdu.now }
 {
-    let f = reading::read_reject(pdu);
+    let read = reading::read_reject(pdu);
+    let f = read.unwrap_or_default();
     *res = f.result;
     *source = f.source;
     *reason = f.reason;
-    f.refusal
+    refusal_in(read)
 }
 
 #[unsafe(no_mangle)]
 pub extern "C" fn feo_raw_read_abort(pdu: &[u8], source: &mut u8, reason: &mut u8) -> u8
     ensures { abort result source.new reason.new ≡ abort_in pdu.now }
 {
-    let f = reading::read_abort(pdu);
+    let read = reading::read_abort(pdu);
+    let f = read.unwrap_or_default();
     *source = f.source;
     *reason = f.reason;
-    f.refusal
+    refusal_in(read)
 }
 
 // The PDV of this number, from 0.
@@ -122,12 +143,13 @@ pub extern "C" fn feo_raw_read_data(
 ) -> u8
     ensures { pdv_fields result id.new control.new start.new length.new ≡ data_of pdu.now number }
 {
-    let f = reading::read_data(pdu, number);
+    let read = reading::read_data(pdu, number);
+    let f = read.unwrap_or_default();
     *id = f.id;
     *control = f.control;
     *start = f.start;
     *length = f.len;
-    f.refusal
+    refusal_in(read)
 }
 
 // The PDV item at this place of the PDU, by itself.
@@ -142,10 +164,11 @@ pub extern "C" fn feo_raw_pdv_at(
 ) -> u8
     ensures { pdv_fields result id.new control.new start.new length.new ≡ data_at pdu.now at }
 {
-    let item = reading::pdv_at(pdu, at);
+    let read = reading::pdv_at(pdu, at);
+    let item = read.unwrap_or_default();
     *id = item.id;
     *control = item.control;
     *start = item.start;
     *length = item.len;
-    item.refusal
+    refusal_in(read)
 }

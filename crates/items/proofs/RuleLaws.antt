@@ -1,38 +1,14 @@
--- Rules: the loop that follows one, and what a holder that keeps it has.
+-- Rules: what a holder has that keeps one.
 -- Assumes nothing.
-use Prim.Native.Nat.{ℕ, ◌+◌, ◌-◌, ◌≤◌, ◌<◌}
+use Prim.Native.Nat.{ℕ}
 use mathlib.Core.Bool.{Bool, true, false, ◌&&◌, cond, and-true}
 use mathlib.Core.List.{List, [], ◌∷◌}
 use mathlib.Core.Path.{◌≡◌, refl, sym, ap, ◌∙◌}
-use lib.ListN.{length, take, drop, get_or}
 use lib.Dec.{eqb}
-use borrow.Author.Tests.{not-true, not-false}
 use Rattle.laws.specs.Lists.{among}
-use Rattle.items.specs.Items.{Walk, done, broken, item, walk, filled, types, only, good_bodies, item_end}
+use Rattle.items.specs.Items.{Walk, done, broken, item, filled, types, only, good_bodies}
 use Rattle.items.specs.Private.Rules.{Rule, keeps}
-use Rattle.items.proofs.WalkLaws.{Item, stop, over, walking}
 use Rattle.items.proofs.HoldLaws.{pass, goods_more, goods_done}
-
--- ---- the loop over a holder's items, with `all` for the answer for the whole: a turn, and its ends. What a call ensures goes in as it stands
-module _ (R : Rule) (all : Bool) (s : List ℕ) (at st : ℕ) (inv : all ≡ keeps R st (walk (drop at s))) where
-  pub keeps_more : {e : ℕ} {good : Bool} {st' : ℕ} → Item s at e → good ≡ R.good (get_or s at 0) (take (e - (at + 4)) (drop (at + 4) s)) → good ≡ true
-      → st' ≡ R.next st (get_or s at 0) → all ≡ keeps R st' (walk (drop e s))
-  unfolding keeps
-  keeps_more i g t n = inv ∙ rw (i.eq, ← g, t, n)
-
-  pub keeps_bad : {e : ℕ} {good : Bool} → Item s at e → good ≡ R.good (get_or s at 0) (take (e - (at + 4)) (drop (at + 4) s)) → good ≡ false → false ≡ all
-  unfolding keeps
-  keeps_bad i g t = sym (inv ∙ rw (i.eq, ← g, t))
-
-  pub keeps_stop : {e : ℕ} → e ≡ item_end s at → e ≡ 0 → at < length s → false ≡ all
-  unfolding keeps
-  keeps_stop {e} p z l = sym (inv ∙ rw (stop s at e p z l))
-
-  pub keeps_over : {last : ℕ} → length s ≤ at → last ≡ R.last → eqb st last ≡ all
-  unfolding keeps
-  keeps_over h l = sym (inv ∙ rw (over s at h, l))
-
-pub ruleset keeping = (keeps_more, keeps_bad, keeps_stop, keeps_over, not-true, not-false, walking)
 
 -- ---- A rule, told apart: the items fill the holder, the known types lead to the last state, and every known body is good
 -- the state after items of these types

@@ -68,5 +68,5 @@ module _ (s : List ℕ) (at e : ℕ) (p : e ≡ item_end s at) where
 pub over : (s : List ℕ) (at : ℕ) → length s ≤ at → walk (drop at s) ≡ done
 over s at h = rw (drop_of_length-le s h, walk_nil)
 
--- for any loop over items; `keeping` adds the loop that follows a rule
+-- for any loop over items by place
 pub ruleset walking = (more, parting)

@@ -20,13 +20,6 @@ pub fn item_end(s: &[u8], at: usize) -> Option<usize>
     Some(at + 4 + n)
 }
 
-// The same as a number, 0 for none, until each crate goes over `Items`.
-pub fn end_at(s: &[u8], at: usize) -> usize
-    ensures { result ≡ item_end s.now at }
-{
-    item_end(s, at).unwrap_or(0)
-}
-
 // An item: its type and its body.
 #[derive(Clone, Copy)]
 pub struct Item<'a> {

@@ -1,23 +1,23 @@
--- Which kind a PDU is: each way through the code, and what a kind tells.
+-- Which kind a PDU is: what the code tests of it, and what a kind tells.
 -- Assumes nothing.
-use Prim.Native.Nat.{ℕ, ◌+◌, ◌-◌, ◌%◌, ◌≤◌, ◌<◌}
+use Prim.Native.Nat.{ℕ, ◌+◌, ◌-◌, ◌≤◌, ◌<◌}
 use native.Mathlib.Omega.{arith}
-use mathlib.Core.Bool.{Bool, true, false, not, ◌&&◌, cond, and-false}
+use mathlib.Core.Bool.{Bool, true, false, ◌&&◌, cond, and-false}
 use mathlib.Core.List.{List, []}
 use mathlib.Core.Path.{◌≡◌, refl, sym, ap, ◌∙◌}
 use lib.ListN.{length, take, drop, get_or}
 use lib.Dec.{leb, eqb}
 use borrow.Author.Rules.{rules}
-use borrow.Author.Tests.{le-leb, lt-leb, leb-true, leb-false, eq-eqb, ne_eqb, eqb-true, eqb-false, not-true, not-false}
+use borrow.Author.Tests.{le-leb, lt-leb, leb-true, leb-false, eq-eqb, ne_eqb, eqb-true, eqb-false}
 use Rattle.laws.proofs.Booleans.{left_of, right_of, both_of}
 use Rattle.laws.proofs.Places.{part_tail}
-use Rattle.laws.proofs.Tests.{deciding}
 use Rattle.octets.specs.Octets.{be16, be32, odd}
 use Rattle.titles.specs.Title.{title_ok}
 use Rattle.contents.specs.Contents.{items_ok, maximum_in}
-use Rattle.pdvs.specs.Data.{pdvs_ok}
-use Rattle.judging.specs.Private.Kinds.{kind_as}
-use Rattle.judging.specs.Pdu.{pdu_length, whole, request_ok, accept_ok, reject_pdu_ok, data_ok, abort_pdu_ok, valid_as, kind_of, acceptable, maximum_of}
+use Rattle.std.specs.Bool.{then_some}
+use Rattle.numbers.specs.declared.kinds.Kind.{Kind}
+use Rattle.numbers.specs.Kinds.{type_byte, kind_number}
+use Rattle.judging.specs.Pdu.{pdu_length, whole, request_ok, accept_ok, reject_pdu_ok, abort_pdu_ok, valid_as, kind_of, acceptable}
 
 -- ---- `is_whole`
 module _ (x : List ℕ) where
@@ -74,43 +74,51 @@ module _ (x : List ℕ) (w : whole x ≡ true) where
       go true q = sym (four_is (eqb-true _ _ q))
       go false q = sym (four_not (eqb-false (length x) 10 q))
 
--- ---- the kinds: the bytes behind the fixed ones, as the code has them
-pub tail_items : (r : Bool) (k : ℕ) (x : List ℕ) → r ≡ items_ok k (take (length x - 74) (drop 74 x)) → r ≡ items_ok k (drop 74 x)
-tail_items r k x e = e ∙ rw (part_tail 74 x)
+  -- an RQ or AC behind its fixed fields, as the code has the bytes there
+  pub request_is : 74 ≤ length x → title_ok (take 16 (drop 10 x)) ≡ true → title_ok (take 16 (drop 26 x)) ≡ true → items_ok 0x20 (take (length x - 74) (drop 74 x)) ≡ request_ok x
+  unfolding request_ok
+  request_is h t u = rw (from_68 h, t, u, part_tail 74 x)
 
-pub tail_pdvs : (r : Bool) (x : List ℕ) → r ≡ pdvs_ok 255 (take (length x - 6) (drop 6 x)) → r ≡ data_ok x
-unfolding data_ok
-tail_pdvs r x e = e ∙ rw (part_tail 6 x)
+  pub accept_is : 74 ≤ length x → odd (be16 x 6) ≡ true → items_ok 0x21 (take (length x - 74) (drop 74 x)) ≡ accept_ok x
+  unfolding accept_ok
+  accept_is h v = rw (from_68 h, v, part_tail 74 x)
 
-pub version_odd : (r : ℕ) (x : List ℕ) → r ≡ be16 x 6 → r % 2 ≡ 1 → odd (be16 x 6) ≡ true
-version_odd r x e o = eq-eqb (be16 x 6 % 2) 1 (rw e at o)
-
-pub version_even : (r : ℕ) (x : List ℕ) → r ≡ be16 x 6 → (r % 2 ≡ 1 → ⊥) → odd (be16 x 6) ≡ false
-version_even r x e o = ne_eqb (be16 x 6 % 2) 1 (rw e at o)
-
-pub version_is : (r : ℕ) (x : List ℕ) → r ≡ be16 x 6 → eqb (r % 2) 1 ≡ odd (be16 x 6)
-version_is r x e = rw e
-
-pub ruleset kinds = (deciding, below_68, from_68, four_not, four_is, ten_four, whole_six, tail_items, tail_pdvs, version_odd, version_even, version_is, rules)
+-- ---- no type but the seven is valid
+others : (x : List ℕ) (t : ℕ) → (leb 1 t && leb t 7) ≡ false → valid_as t x ≡ false
+unfolding valid_as
+others x t h =
+    simp (
+      ne_eqb t 1 (λ e. not_in e h refl),
+      ne_eqb t 2 (λ e. not_in e h refl),
+      ne_eqb t 3 (λ e. not_in e h refl),
+      ne_eqb t 4 (λ e. not_in e h refl),
+      ne_eqb t 5 (λ e. not_in e h refl),
+      ne_eqb t 6 (λ e. not_in e h refl),
+      ne_eqb t 7 (λ e. not_in e h refl),
+    )
+  where
+    not_in : {k : ℕ} → t ≡ k → (leb 1 t && leb t 7) ≡ false → (leb 1 k && leb k 7) ≡ true → ⊥
+    not_in e q p = cc
 
 -- ---- `kind_of`
-module _ (x : List ℕ) (w : Bool) (p : w ≡ whole x) where
-  pub kind_part : not w ≡ true → 0 ≡ kind_of x
+module _ (x : List ℕ) where
+  pub not_whole : whole x ≡ false → 0 ≡ kind_of x
   unfolding kind_of
-  kind_part h = simp (sym p ∙ not-true w h)
+  not_whole h = rw h
 
-  module _ (h : not w ≡ false) where
-    pub is_whole : whole x ≡ true
-    is_whole = sym p ∙ not-false w h
+  pub no_type : (leb 1 (get_or x 0 0) && leb (get_or x 0 0) 7) ≡ false → 0 ≡ kind_of x
+  unfolding kind_of
+  no_type h = rw (others x (get_or x 0 0) h, and-false (whole x))
 
-    pub first_there : 0 < length x
-    first_there = let l = whole_six x is_whole in omega arith
+  pub of_type : whole x ≡ true → (k : Kind) → type_byte k ≡ get_or x 0 0 → (v : Bool) → v ≡ valid_as (type_byte k) x → kind_number (then_some v k) ≡ kind_of x
+  unfolding kind_of
+  of_type w k t v e = rw (w, ← t, ← e) (go v)
+    where
+      go : (b : Bool) → kind_number (then_some b k) ≡ cond b (type_byte k) 0
+      go true = refl
+      go false = refl
 
-    pub kind_as_so : (r : ℕ) → r ≡ kind_as (get_or x 0 0) x → r ≡ kind_of x
-    unfolding kind_of kind_as
-    kind_as_so r e = e ∙ simp is_whole
-
-pub ruleset kind_laws = (rules, kind_part, is_whole, first_there, kind_as_so)
+pub ruleset kind_laws = (not_whole, no_type, of_type, whole_six)
 
 -- ---- what a kind tells
 module _ (x : List ℕ) where
@@ -153,19 +161,8 @@ module _ (x : List ℕ) where
   unfolding valid_as
   kind_abort e = kind_valid 7 e (λ z. omega arith)
 
-  -- no other type is valid
-  others : (t : ℕ) → 8 ≤ t → valid_as t x ≡ false
-  unfolding valid_as
-  others t h =
-      simp (
-        ne_eqb t 1 (λ e. omega arith),
-        ne_eqb t 2 (λ e. omega arith),
-        ne_eqb t 3 (λ e. omega arith),
-        ne_eqb t 4 (λ e. omega arith),
-        ne_eqb t 5 (λ e. omega arith),
-        ne_eqb t 6 (λ e. omega arith),
-        ne_eqb t 7 (λ e. omega arith),
-      )
+  past : (t : ℕ) → 8 ≤ t → (leb 1 t && leb t 7) ≡ false
+  past t h = rw (lt-leb t 7 (omega arith), and-false (leb 1 t))
 
   small : (b : Bool) (t : ℕ) → t < 8 → cond b t 0 < 8
   small true t h = h
@@ -176,7 +173,7 @@ module _ (x : List ℕ) where
   kind_below = go (leb 8 (get_or x 0 0)) refl
     where
       go : (b : Bool) → leb 8 (get_or x 0 0) ≡ b → cond (whole x && valid_as (get_or x 0 0) x) (get_or x 0 0) 0 < 8
-      go true q = rw (others (get_or x 0 0) (leb-true _ _ q), and-false (whole x)) (omega arith)
+      go true q = rw (others x (get_or x 0 0) (past (get_or x 0 0) (leb-true _ _ q)), and-false (whole x)) (omega arith)
       go false q = let h : get_or x 0 0 < 8 = leb-false _ _ q in small (whole x && valid_as (get_or x 0 0) x) (get_or x 0 0) h
 
   -- an RQ or AC has its fixed fields
@@ -202,33 +199,9 @@ module _ (x : List ℕ) where
   unfolding accept_ok
   accept_items e = right_of (odd (be16 x 6)) _ (right_of (leb 68 (pdu_length x)) _ (kind_accept e))
 
--- ---- `acceptable` and `maximum_of`
-module _ (x : List ℕ) (k : ℕ) (p : k ≡ kind_of x) where
-  pub accept_other : (k ≡ 1 → ⊥) → false ≡ acceptable x
-  unfolding acceptable
-  accept_other h = simp (ne_eqb (kind_of x) 1 (rw p at h))
-
-  pub accept_version : (v : ℕ) → k ≡ 1 → v ≡ be16 x 6 → eqb (v % 2) 1 ≡ acceptable x
-  unfolding acceptable
-  accept_version v h e = simp (eq-eqb (kind_of x) 1 (sym p ∙ h)) (version_is v x e)
-
-  pub max_request_long : k ≡ 1 → 74 ≤ length x
-  max_request_long h = request_long x (sym p ∙ h)
-
-  pub max_accept_long : k ≡ 2 → 74 ≤ length x
-  max_accept_long h = accept_long x (sym p ∙ h)
-
-  pub max_request : (r : ℕ) → k ≡ 1 → r ≡ maximum_in (take (length x - 74) (drop 74 x)) → r ≡ maximum_of x
-  unfolding maximum_of
-  max_request r h e = e ∙ (rw (part_tail 74 x) (simp (eq-eqb (kind_of x) 1 (sym p ∙ h))))
-
-  pub max_accept : (r : ℕ) → k ≡ 2 → r ≡ maximum_in (take (length x - 74) (drop 74 x)) → r ≡ maximum_of x
-  unfolding maximum_of
-  max_accept r h e = e ∙ (rw (part_tail 74 x, ← p, h))
-
-  pub max_other : (k ≡ 1 → ⊥) → (k ≡ 2 → ⊥) → 0 ≡ maximum_of x
-  unfolding maximum_of
-  max_other h g = rw (← p, ne_eqb k 1 h, ne_eqb k 2 g)
+-- ---- `maximum_of`: the bytes behind the fixed ones, as the code has them
+pub max_part : (r : ℕ) (x : List ℕ) → r ≡ maximum_in (take (length x - 74) (drop 74 x)) → r ≡ maximum_in (drop 74 x)
+max_part r x e = e ∙ rw (part_tail 74 x)
 
 -- ---- no bytes are no PDU
 pub kind_none : kind_of [] ≡ 0
@@ -239,4 +212,4 @@ pub acceptable_none : acceptable [] ≡ false
 unfolding acceptable
 acceptable_none = rw kind_none
 
-pub ruleset asked_laws = (rules, accept_other, accept_version, max_request_long, max_accept_long, max_request, max_accept, max_other)
+pub ruleset asked_laws = (request_long, accept_long, max_part)

@@ -1,2 +1,1 @@
 pub mod Pdu
-pub mod Private

@@ -2,5 +2,6 @@
 #![tactic(auto)]
 
 mod kind;
+mod whole;
 
 pub use kind::{acceptable, kind_of, maximum_of};

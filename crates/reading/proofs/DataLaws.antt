@@ -1,6 +1,6 @@
 -- Reading a PDV by its number: PDV n of the list is what stands behind those before it, and its fragment is its own part of the PDU.
 -- Assumes nothing.
-use Prim.Native.Nat.{ℕ, zero, suc, ◌+◌, ◌-◌, ◌^◌, ◌≤◌, ◌<◌}
+use Prim.Native.Nat.{ℕ, zero, suc, ◌+◌, ◌-◌, ◌≤◌, ◌<◌}
 use native.Mathlib.Omega.{arith}
 use native.Mathlib.Numerals.{add-one}
 use mathlib.Core.Bool.{Bool, true, false}
@@ -9,18 +9,19 @@ use mathlib.Core.Path.{◌≡◌, refl, sym, ap, ◌∙◌}
 use lib.ListN.{length, take, drop, get_or, length-drop, drop_of_length-le}
 use lib.Seq.{drop-drop, take_all, length-take-le, get_or-drop}
 use lib.Dec.{ltb, eqb}
-use borrow.Author.Rules.{rules}
+use Rattle.std.specs.Prelude.{None, Some, Result, Ok, Err}
 use borrow.Author.Tests.{lt-ltb, le-ltb, ltb-true, ne_eqb, eqb-true, eqb-false}
-use mir.Val.{Fits}
-use mir.Syntax.{w64}
 use Rattle.laws.proofs.Places.{part_tail}
-use Rattle.octets.proofs.SliceLaws.{place_from}
-use Rattle.pdvs.specs.Data.{Pdv, pdvs, size, pdv_end}
+use Rattle.numbers.specs.declared.refusals.Refusal.{Refusal}
+use Rattle.numbers.specs.Refusals.{refusal_number, refusal_in}
+use Rattle.numbers.proofs.NumberLaws.{refusal_some, answer_once}
+use Rattle.pdvs.specs.Data.{Pdv, pdvs, size, pdv_end, item_end}
 use Rattle.judging.specs.Pdu.{kind_of}
 use Rattle.pdvs.proofs.DataLaws.{pdv_at, PdvItem, pdv_more, pdv_stop}
+use Rattle.pdvs.proofs.EndLaws.{item_there, item_none}
 use Rattle.judging.proofs.KindLaws.{whole_six, kind_whole}
-use Rattle.reading.specs.Data.{pdvs_of, pdv, start_of, no_data, data_of, fragment_of}
-use Rattle.reading.specs.declared.data.DataRead.{DataRead}
+use Rattle.reading.specs.Data.{pdvs_of, pdv, start_of, DataRead, no_data, data_of, data_as, fragment_of}
+use Rattle.reading.specs.declared.data.Pdv.{Pdv as Told}
 
 -- ---- lists
 pub size_more : (ps : List Pdv) (k : ℕ) (p : Pdv) (qs : List Pdv) → drop k ps ≡ p ∷ qs → size (take (suc k) ps) ≡ size (take k ps) + (6 + length p.fragment)
@@ -95,94 +96,63 @@ module _ (number : ℕ) (s : List ℕ) (at k : ℕ) (w : Reaching number s at k)
   pub reach_done : number ≤ k → at ≡ size (take number (pdvs s))
   reach_done h = let b = w.below in let z : k ≡ number = omega arith in rw (← z) w.place
 
-  module _ (h : k < number) (e : ℕ) (p : e ≡ pdv_end s at) where
-    pub reach_stop : e ≡ 0 → at ≡ size (take number (pdvs s))
-    reach_stop z = w.place ∙ ap size (sym (take_past (pdvs s) k number (no_pdv s k at e w.place p z) (omega arith)))
+  pub reach_stop : k < number → None ≡ item_end s at → at ≡ size (take number (pdvs s))
+  reach_stop h p = w.place ∙ ap size (sym (take_past (pdvs s) k number (no_pdv s k at (pdv_end s at) w.place refl (item_none s at p)) (omega arith)))
 
-    pub reach_next : (e ≡ 0 → ⊥) → Reaching number s e (k + 1)
-    reach_next ne =
-        let i = pdv_more s at e p ne in
-        let d = size_more (pdvs s) k (pdv_at s at e) (pdvs (drop e s)) (the_pdv s k at e w.place p ne) in
-        let l = length-drop (at + 6) s in
-        let f : length (take (e - (at + 6)) (drop (at + 6) s)) ≡ e - (at + 6) = length-take-le (e - (at + 6)) (drop (at + 6) s) (omega arith) in
-        let c = w.place in
-        let z : e ≡ size (take (suc k) (pdvs s)) = omega arith in
-        record { place = z ∙ ap (λ (m : ℕ). size (take m (pdvs s))) (sym (add-one k)); below = omega arith }
+  pub reach_next : k < number → (e : ℕ) → Some e ≡ item_end s at → Reaching number s e (k + 1)
+  reach_next h e t =
+      let v = item_there s at e t in
+      let p : e ≡ pdv_end s at = v.0 in
+      let ne : (e ≡ 0 → ⊥) = v.1 in
+      let i = pdv_more s at e p ne in
+      let d = size_more (pdvs s) k (pdv_at s at e) (pdvs (drop e s)) (the_pdv s k at e w.place p ne) in
+      let l = length-drop (at + 6) s in
+      let f : length (take (e - (at + 6)) (drop (at + 6) s)) ≡ e - (at + 6) = length-take-le (e - (at + 6)) (drop (at + 6) s) (omega arith) in
+      let c = w.place in
+      let z : e ≡ size (take (suc k) (pdvs s)) = omega arith in
+      record { place = z ∙ ap (λ (m : ℕ). size (take m (pdvs s))) (sym (add-one k)); below = omega arith }
 
-pub ruleset reach_laws = (rules, reach_start, reach_done, reach_stop, reach_next)
+pub ruleset reach_laws = (reach_start, reach_done, reach_stop, reach_next)
 
 -- ---- `read_data`
-module _ (x : List ℕ) (number k : ℕ) (p : k ≡ kind_of x) where
-  pub data_other : {r : DataRead} → r ≡ no_data 7 → (k ≡ 4 → ⊥) → r ≡ data_of x number
+-- the body of a PDU as the code has it
+abbrev body : List ℕ → List ℕ
+body x = take (length x - 6) (drop 6 x)
+
+module _ (x : List ℕ) (number : ℕ) where
+  pub data_other : (kind_of x ≡ 4 → ⊥) → no_data 7 ≡ data_of x number
   unfolding data_of
-  data_other w h = w ∙ rw (← p, ne_eqb k 4 h)
+  data_other h = rw (ne_eqb (kind_of x) 4 h)
 
-  module _ (h : k ≡ 4) where
-    pub data_six : 6 ≤ length x
-    data_six = whole_six x (kind_whole x 4 (sym p ∙ h) (λ z. omega arith))
+  module _ (h : kind_of x ≡ 4) (at : ℕ) (a : at ≡ size (take number (pdvs (body x)))) where
+    place_in : at ≡ size (take number (pdvs (drop 6 x)))
+    place_in = a ∙ rw (part_tail 6 x)
 
-    module _ (at e : ℕ) (a : at ≡ size (take number (pdvs (take (length x - 6) (drop 6 x))))) (q : e ≡ pdv_end (take (length x - 6) (drop 6 x)) at) where
-      -- the body, without the part that the code has it as
-      place_in : at ≡ size (take number (pdvs (drop 6 x)))
-      place_in = a ∙ rw (part_tail 6 x)
+    pub data_past : None ≡ item_end (body x) at → no_data 4 ≡ data_of x number
+    unfolding data_of pdvs_of
+    data_past p =
+        let z : pdv_end (drop 6 x) at ≡ 0 = rw (part_tail 6 x) at (item_none (body x) at p) in
+        let l = run_out (pdvs (drop 6 x)) number (no_pdv (drop 6 x) number at (pdv_end (drop 6 x) at) place_in refl z) in
+        rw (h, le-ltb number (length (pdvs (drop 6 x))) l)
 
-      end_in : e ≡ pdv_end (drop 6 x) at
-      end_in = q ∙ rw (part_tail 6 x)
+    pub data_is : (e : ℕ) → Some e ≡ item_end (body x) at
+        → record { refusal = 0; id = get_or (body x) (at + 4) 0; control = get_or (body x) (at + 5) 0; start = 6 + at + 6; len = e - (at + 6) } ≡ data_of x number
+    unfolding data_of pdvs_of start_of
+    data_is e p =
+        let w = item_there (body x) at e p in
+        let q : e ≡ pdv_end (drop 6 x) at = w.0 ∙ rw (part_tail 6 x) in
+        let ne : (e ≡ 0 → ⊥) = w.1 in
+        let i = pdv_more (drop 6 x) at e q ne in
+        let l = length-drop (at + 6) (drop 6 x) in
+        let f : length (take (e - (at + 6)) (drop (at + 6) (drop 6 x))) ≡ e - (at + 6) = length-take-le (e - (at + 6)) (drop (at + 6) (drop 6 x)) (omega arith) in
+        let g = pdv_is (drop 6 x) number at e place_in q ne in
+        let t : ltb number (length (pdvs (drop 6 x))) ≡ true = lt-ltb number (length (pdvs (drop 6 x))) (pdv_there (drop 6 x) number at e place_in q ne) in
+        rw (part_tail 6 x, h, t, g, f, ← place_in)
 
-      pub data_past : {r : DataRead} → r ≡ no_data 4 → e ≡ 0 → r ≡ data_of x number
-      unfolding data_of pdvs_of
-      data_past w z =
-          let l = run_out (pdvs (drop 6 x)) number (no_pdv (drop 6 x) number at e place_in end_in z) in
-          w ∙ rw (← p, h, le-ltb number (length (pdvs (drop 6 x))) l)
+pub data_six : (x : List ℕ) → kind_of x ≡ 4 → 6 ≤ length x
+data_six x h = whole_six x (kind_whole x 4 h (λ z. omega arith))
 
-      module _ (ne : e ≡ 0 → ⊥) where
-        item_in : PdvItem (drop 6 x) at e
-        item_in = pdv_more (drop 6 x) at e end_in ne
-
-        pub data_id : at + 4 < length (take (length x - 6) (drop 6 x))
-        data_id = rw (part_tail 6 x) (let i = item_in in omega arith)
-
-        pub data_control : at + 5 < length (take (length x - 6) (drop 6 x))
-        data_control = rw (part_tail 6 x) (let i = item_in in omega arith)
-
-        within : at + 6 + 6 ≤ length x
-        within = let i = item_in in let l = length-drop 6 x in let s = data_six in omega arith
-
-        pub data_from : at + 6 ≤ e
-        data_from = let i = item_in in omega arith
-
-        pub data_fits_4 : length x < 2 ^ 64 → Fits w64 (at + 4)
-        data_fits_4 m = let w = within in omega arith
-
-        pub data_fits_5 : length x < 2 ^ 64 → Fits w64 (at + 5)
-        data_fits_5 m = let w = within in omega arith
-
-        pub data_fits_6 : length x < 2 ^ 64 → Fits w64 (at + 6)
-        data_fits_6 m = let w = within in omega arith
-
-        pub data_fits_at : length x < 2 ^ 64 → Fits w64 (6 + at)
-        data_fits_at m = let w = within in omega arith
-
-        pub data_fits_start : length x < 2 ^ 64 → Fits w64 (6 + at + 6)
-        data_fits_start m = let w = within in omega arith
-
-        pub data_is : record {
-          refusal = 0;
-          id = get_or (take (length x - 6) (drop 6 x)) (at + 4) 0;
-          control = get_or (take (length x - 6) (drop 6 x)) (at + 5) 0;
-          start = 6 + at + 6;
-          len = e - (at + 6);
-        } ≡ data_of x number
-        unfolding data_of pdvs_of start_of
-        data_is =
-            let i = item_in in
-            let l = length-drop (at + 6) (drop 6 x) in
-            let f : length (take (e - (at + 6)) (drop (at + 6) (drop 6 x))) ≡ e - (at + 6) = length-take-le (e - (at + 6)) (drop (at + 6) (drop 6 x)) (omega arith) in
-            let g = pdv_is (drop 6 x) number at e place_in end_in ne in
-            let t : ltb number (length (pdvs (drop 6 x))) ≡ true = lt-ltb number (length (pdvs (drop 6 x))) (pdv_there (drop 6 x) number at e place_in end_in ne) in
-            rw (part_tail 6 x, ← p, h, t, g, f, ← place_in)
-
-pub ruleset data_laws = (rules, data_other, data_six, data_past, data_id, data_control, data_from, data_fits_4, data_fits_5, data_fits_6, data_fits_at, data_fits_start, data_is)
+pub ruleset data_laws = (data_other, data_past, data_is, data_six)
 
 -- ---- what a reading that is not refused tells
 module _ (x : List ℕ) (n : ℕ) (v : kind_of x ≡ 4) (h : n < length (pdvs_of x)) where
@@ -253,18 +223,33 @@ inside x n = go (eqb (kind_of x) 4) refl (ltb n (length (pdvs_of x))) refl
     go true p false q = rw (p, q) (omega arith)
     go true p true q = rw (p, q) (fragment_within x n (eqb-true _ _ p) (ltb-true _ _ q))
 
-module _ (x : List ℕ) (n : ℕ) (d : DataRead) (p : d ≡ data_of x n) where
-  pub part_within : d.start + d.len ≤ length x
-  part_within = rw p (inside x n)
+module _ (x : List ℕ) (n i k start len : ℕ) (p : record { refusal = 0; id = i; control = k; start = start; len = len } ≡ data_of x n) where
+  pub part_within : start + len ≤ length x
+  part_within = let w = inside x n in let a = ap (λ (d : DataRead). d.start) p in let b = ap (λ (d : DataRead). d.len) p in omega arith
 
-  pub part_fits : length x < 2 ^ 64 → Fits w64 (d.start + d.len)
-  part_fits h = let w = part_within in omega arith
-
-  pub part_is : take (d.start + d.len - d.start) (drop d.start x) ≡ fragment_of x n
+  pub part_is : take (start + len - start) (drop start x) ≡ fragment_of x n
   unfolding fragment_of
-  part_is = let z : d.start + d.len - d.start ≡ d.len = omega arith in rw (z, p)
+  part_is = let z : start + len - start ≡ len = omega arith in rw (z, ← p)
 
-  pub part_start : d.start ≡ (data_of x n).start
-  part_start = rw p
+  pub part_start : start ≡ (data_of x n).start
+  part_start = ap (λ (d : DataRead). d.start) p
 
-pub ruleset part_laws = (rules, part_within, part_fits, part_is, part_start, place_from)
+-- of a refusal nothing is handed back
+pub part_none : (x : List ℕ) (n : ℕ) (e : Refusal) → no_data (refusal_number e) ≡ data_of x n → ((data_of x n).start ≡ 0) × (fragment_of x n ≡ [])
+part_none x n e p = fragment_refused x n (λ z. refusal_some e (ap (λ (d : DataRead). d.refusal) p ∙ z))
+
+-- ---- an answer is told by the record that it is
+data_back : DataRead → Told
+data_back r = record { id = r.id; control = r.control; start = r.start; len = r.len }
+
+pub data_once : (a b : Result Told Refusal) → data_as a ≡ data_as b → a ≡ b
+unfolding data_back
+data_once a b e =
+    answer_once a b (refusals a b e) (λ x y p q. ap data_back (ap data_as (sym p) ∙ (e ∙ ap data_as q)))
+  where
+    said : (r : Result Told Refusal) → refusal_in r ≡ (data_as r).refusal
+    said (Ok r) = refl
+    said (Err n) = refl
+
+    refusals : (a b : Result Told Refusal) → data_as a ≡ data_as b → refusal_in a ≡ refusal_in b
+    refusals a b e = said a ∙ (ap (λ (r : DataRead). r.refusal) e ∙ sym (said b))

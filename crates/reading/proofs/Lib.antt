@@ -8,3 +8,4 @@ pub mod PlaceLaws
 pub mod Agree
 pub mod Meaning
 pub mod Examples
+pub mod StepLaws

@@ -29,8 +29,7 @@ use Rattle.roles.proofs.Inverse.{roles_length, roles_back, roles_sheet_ok}
 use Rattle.user_items.specs.Kinds.{role_of}
 use Rattle.user_items.specs.Said.{class_said, version_said, roles_said}
 use Rattle.user_items.proofs.GoodLaws.{roles_said_so}
-use Rattle.reading.specs.Associate.{context_of, answer_of, proposed, answered, application_of, application_at, sub_items_of, sub_items_at, sub_item_at, sub_item_len, sheet_in, roles_sheet_in, refused, fields_of, associate_refusal, associate_of, filling, roles_filling, Read}
-use Rattle.reading.specs.declared.associate.Associate.{Associate}
+use Rattle.reading.specs.Associate.{context_of, answer_of, proposed, answered, application_of, application_at, sub_items_of, sub_items_at, sub_item_at, sub_item_len, sheet_in, roles_sheet_in, Associate, refused, fields_of, associate_refusal, associate_of, filling, roles_filling, Read}
 use Rattle.reading.proofs.ReadLaws.{transfer_goes, user_of}
 
 -- ---- the contexts of a valid RQ, and the answers of a valid AC, are good

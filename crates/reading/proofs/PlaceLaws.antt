@@ -12,56 +12,57 @@ use borrow.Author.Tests.{le-leb, lt-leb, leb-true, leb-false, le-ltb, eq-eqb, ne
 use Rattle.laws.specs.Lists.{all}
 use Rattle.laws.specs.Parts.{part_end}
 use Rattle.laws.proofs.Booleans.{left_of, right_of}
-use Rattle.laws.proofs.Parts.{part_there, parting}
+use Rattle.laws.proofs.Parts.{part_there}
 use Rattle.numbers.specs.Kinds.{DATA-TF}
 use Rattle.octets.specs.Octets.{be32}
-use Rattle.pdvs.specs.Data.{Pdv, pdvs, size, pdv_ok, pdvs_ok, pdv_end}
+use Rattle.std.specs.Prelude.{None, Some}
+use Rattle.pdvs.specs.Data.{Pdv, pdvs, size, pdv_ok, pdvs_ok, item_end}
+use Rattle.pdvs.proofs.EndLaws.{item_there, item_none}
 use Rattle.pdvs.proofs.DataLaws.{be32_drop}
 use Rattle.judging.specs.Pdu.{data_ok, valid_as, kind_of}
 use Rattle.judging.proofs.KindLaws.{whole_six, kind_whole, kind_valid}
 use Rattle.reading.specs.Data.{pdvs_of, pdv, start_of, no_data, data_of, pdv_stands, data_at, place_after}
-use Rattle.reading.specs.declared.data.DataRead.{DataRead}
 use Rattle.reading.proofs.DataLaws.{size_more, the_pdv, pdv_is, at_n, end_n, there, length_n, data_in}
 
 -- ---- `pdv_at`
 module _ (x : List ℕ) (at : ℕ) where
-  pub at_header : {r : DataRead} → r ≡ no_data 4 → (k : ℕ) → leb k 6 ≡ true → at < k → r ≡ data_at x at
+  pub at_header : at < 6 → no_data 4 ≡ data_at x at
   unfolding data_at pdv_stands
-  at_header w k q h = let l : k ≤ 6 = leb-true _ _ q in w ∙ simp (lt-leb 6 at (omega arith))
+  at_header h = simp (lt-leb 6 at h)
 
-  pub at_even : {r : DataRead} → r ≡ no_data 4 → (get_or x (at + 4) 0 % 2 ≡ 1 → ⊥) → r ≡ data_at x at
+  pub at_even : (get_or x (at + 4) 0 % 2 ≡ 1 → ⊥) → no_data 4 ≡ data_at x at
   unfolding data_at pdv_stands
-  at_even w o =
-      w ∙ simp (
+  at_even o =
+      simp (
         ne_eqb (get_or x (at + 4) 0 % 2) 1 o,
         and-false (leb (at + 4 + be32 x at) (length x)),
         and-false (leb 2 (be32 x at)),
         and-false (leb 6 at),
       )
 
-  module _ (e : ℕ) (p : e ≡ pdv_end x at) where
-    pub at_none : {r : DataRead} → r ≡ no_data 4 → e ≡ 0 → r ≡ data_at x at
-    unfolding data_at pdv_stands part_end
-    at_none w z =
-        w ∙ simp (
-          go (leb 2 (be32 x at)) (leb (at + 4 + be32 x at) (length x)) (eqb (get_or x (at + 4) 0 % 2) 1) (sym p ∙ z),
-          and-false (leb 6 at),
-        )
-      where
-        go : (a b c : Bool) → cond (a && b) (at + 4 + be32 x at) 0 ≡ 0 → (a && (b && c)) ≡ false
-        go false b c q = refl
-        go true false c q = refl
-        go true true c q = absurd (omega arith)
+  pub at_none : None ≡ item_end x at → no_data 4 ≡ data_at x at
+  unfolding data_at pdv_stands part_end
+  at_none p =
+      simp (
+        go (leb 2 (be32 x at)) (leb (at + 4 + be32 x at) (length x)) (eqb (get_or x (at + 4) 0 % 2) 1) (item_none x at p),
+        and-false (leb 6 at),
+      )
+    where
+      go : (a b c : Bool) → cond (a && b) (at + 4 + be32 x at) 0 ≡ 0 → (a && (b && c)) ≡ false
+      go false b c q = refl
+      go true false c q = refl
+      go true true c q = absurd (omega arith)
 
-    pub at_is : 6 ≤ at → (e ≡ 0 → ⊥) → get_or x (at + 4) 0 % 2 ≡ 1
-        → record { refusal = 0; id = get_or x (at + 4) 0; control = get_or x (at + 5) 0; start = at + 6; len = e - (at + 6) } ≡ data_at x at
-    unfolding data_at pdv_stands
-    at_is h ne o =
-        let i = part_there 2 x at (be32 x at) e p ne in
-        let l : e - (at + 6) ≡ be32 x at - 2 = omega arith in
-        rw (le-leb 6 at h, le-leb 2 (be32 x at) i.low, le-leb (at + 4 + be32 x at) (length x) (omega arith), eq-eqb (get_or x (at + 4) 0 % 2) 1 o, l)
+  pub at_is : (e : ℕ) → Some e ≡ item_end x at → 6 ≤ at → get_or x (at + 4) 0 % 2 ≡ 1
+      → record { refusal = 0; id = get_or x (at + 4) 0; control = get_or x (at + 5) 0; start = at + 6; len = e - (at + 6) } ≡ data_at x at
+  unfolding data_at pdv_stands
+  at_is e t h o =
+      let v = item_there x at e t in
+      let i = part_there 2 x at (be32 x at) e v.0 v.1 in
+      let l : e - (at + 6) ≡ be32 x at - 2 = omega arith in
+      rw (le-leb 6 at h, le-leb 2 (be32 x at) i.low, le-leb (at + 4 + be32 x at) (length x) (omega arith), eq-eqb (get_or x (at + 4) 0 % 2) 1 o, l)
 
-pub ruleset place_laws = (at_header, at_none, at_even, at_is, parting)
+pub ruleset place_laws = (at_header, at_none, at_even, at_is)
 
 -- ---- the PDVs in order
 each : (f : Pdv → Bool) (ps : List Pdv) (n : ℕ) → all f ps ≡ true → n < length ps → f (pdv ps n) ≡ true
@@ -177,4 +178,4 @@ module _ (x : List ℕ) (v : kind_of x ≡ DATA-TF) where
       go ih false q = let l : n < length (pdvs_of x) = leb-false _ _ q in to_last (suc n) (omega arith)
       go ih true q =
           let l : length (pdvs_of x) ≤ n = leb-true _ _ q in
-          rw (ih, past_last n l, past_last (suc n) (omega arith)) (sym (at_header x 0 refl 6 refl (omega arith)))
+          rw (ih, past_last n l, past_last (suc n) (omega arith)) (sym (at_header x 0 (omega arith)))

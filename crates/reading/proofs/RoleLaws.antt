@@ -8,7 +8,6 @@ use mathlib.Core.Path.{◌≡◌, refl, ap, ◌∙◌}
 use lib.ListN.{length, take, get_or}
 use lib.Seq.{take_all}
 use lib.Dec.{eqb}
-use borrow.Author.Rules.{rules}
 use Rattle.laws.specs.Lists.{all}
 use Rattle.laws.proofs.Booleans.{left_of, right_of}
 use Rattle.octets.specs.Octets.{be16}
@@ -16,14 +15,14 @@ use Rattle.octets.specs.Private.Put.{Put}
 use Rattle.octets.specs.Put.{Placed}
 use Rattle.octets.proofs.PutLaws.{placed_put}
 use Rattle.names.proofs.NameLaws.{name_short}
-use Rattle.items.specs.Items.{item_end}
+use Rattle.items.specs.Items.{Walk, item}
 use Rattle.sheets.proofs.RecordLaws.{field_length, cut_short}
 use Rattle.roles.specs.Role.{role_ok}
 use Rattle.roles.specs.Sheet.{role_bytes, role_sheet}
 use Rattle.roles.specs.Record.{record_of}
 use Rattle.user_items.specs.Kinds.{uid_in, role_of, good_54h}
 use Rattle.reading.specs.Private.Records.{each, role_record}
-use Rattle.reading.proofs.FillLaws.{Filling, fill_wide, fill_laws, each_wide}
+use Rattle.reading.proofs.FillLaws.{Filling, fill_wide, each_wide}
 
 -- ---- one record
 role_long : (uid : List ℕ) (scu scp : ℕ) → length (record_of uid scu scp) ≡ 68
@@ -48,13 +47,11 @@ module _ (b uid : List ℕ) (l scu scp : ℕ) (p : l ≡ be16 b 0) (q : uid ≡ 
   pub role_keeps : (r : List ℕ) → r ≡ record_of uid scu scp → length r ≡ 68
   role_keeps r e = ap length e ∙ role_long uid scu scp
 
-pub ruleset role_laws = (rules, role_written, role_keeps)
+pub ruleset role_laws = (role_written, role_keeps)
 
 -- ---- `put_roles`: a record has room
-pub fill_68 : (s o₀ : List ℕ) (from : ℕ) (o : List ℕ) (n at : ℕ) → Filling role_record 0x54 s o₀ from o n at → (e : ℕ) → e ≡ item_end s at → (e ≡ 0 → ⊥) → get_or s at 0 ≡ 0x54 → n + 68 ≤ length o
+pub fill_68 : (w₀ w : Walk) (o₀ : List ℕ) (from : ℕ) (o : List ℕ) (n : ℕ) → Filling role_record 0x54 w₀ w o₀ from o n → (u : ℕ) (b : List ℕ) (w' : Walk) → w ≡ item u b w' → u ≡ 0x54 → n + 68 ≤ length o
 fill_68 = fill_wide role_record 68 0x54 role_68
-
-pub ruleset roles_laws = (fill_68, fill_laws)
 
 -- ---- 68 bytes for each
 pub roles_size_so : (bs : List (List ℕ)) → length (each role_record bs) ≡ 68 * length bs

@@ -1,9 +1,10 @@
 -- Reading an RQ and an AC. "Reading an RQ or AC fills the sheet in PDU order; room is 132 times the records." Of the role sheet: "Reading fills it in PDU order; room is
 -- 68 times the 54Hs; 2 where either lent sheet is too short, and then nothing is written to either."
-use Rattle.std.specs.Prelude.{ℕ, ◌+◌, ◌/◌, ◌≡◌, Bool, not, cond, List, [], ◌∷◌, map, length, drop, get_or, ltb, eqb}
+use Rattle.std.specs.Prelude.{ℕ, ◌+◌, ◌/◌, ◌≡◌, ◌<◌, Bool, not, cond, List, [], ◌∷◌, map, length, drop, get_or, ltb, eqb, Option, None, Some, IfSome, Result, Ok, Err}
 use Rattle.laws.specs.Lists.{empty}
 use Rattle.laws.specs.Refusals.{first_due}
-use Rattle.numbers.specs.Refusals.{NOT-REFUSED, SHORT-OUTPUT, NO-SUCH-PDU}
+use Rattle.numbers.specs.Refusals.{NOT-REFUSED, SHORT-OUTPUT, NO-SUCH-PDU, refusal_number}
+use Rattle.numbers.specs.declared.refusals.Refusal.{Refusal}
 use Rattle.numbers.specs.Kinds.{ASSOCIATE-RQ}
 use Rattle.numbers.specs.Lengths.{RECORD, ROLE}
 use Rattle.numbers.specs.Results.{ACCEPTED}
@@ -14,7 +15,8 @@ use Rattle.sheets.specs.Contexts.{Context, Answered}
 use Rattle.sheets.specs.Sheet.{sheet_of, answer_sheet_of}
 use Rattle.roles.specs.Sheet.{role_sheet}
 use Rattle.user_items.specs.Said.{invoked_said, performed_said, roles_said}
-use Rattle.reading.specs.declared.associate.Associate.{Associate}
+use Rattle.reading.specs.declared.user.Part.{Part}
+use Rattle.reading.specs.declared.associate.Associate.{Associate as Told}
 
 -- ---- the fields
 -- the context in the body of a 20H
@@ -65,6 +67,23 @@ sheet_in kind pdu = cond (eqb kind ASSOCIATE-RQ) (sheet_of (proposed pdu)) (answ
 -- the roles: one record per 54H
 unfoldable pub roles_sheet_in : List ℕ → List ℕ
 roles_sheet_in pdu = role_sheet (roles_said (sub_items_of pdu))
+
+-- refusal: 0, or 7 or 2 with all else 0. The application name, the implementation class UID and the version name stand where these numbers say, 0 and 0 for one of the
+-- last two that is absent; records and roles: how many the sheet and the role sheet start with
+pub record Associate : Type 0 where
+  pub refusal : ℕ
+  pub version : ℕ
+  pub application_at : ℕ
+  pub application_len : ℕ
+  pub maximum : ℕ
+  pub records : ℕ
+  pub class_at : ℕ
+  pub class_len : ℕ
+  pub version_name_at : ℕ
+  pub version_name_len : ℕ
+  pub invoked : ℕ
+  pub performed : ℕ
+  pub roles : ℕ
 
 abbrev pub refused : ℕ → Associate
 refused n =
@@ -129,3 +148,39 @@ pub record Read (kind : ℕ) (pdu s t : List ℕ) (r : Associate) (s' t' : List 
   pub answer : r ≡ associate_of kind pdu (length s) (length t)
   pub sheet : s' ≡ front s (filling kind pdu (length s) (length t))
   pub roles : t' ≡ front t (roles_filling kind pdu (length s) (length t))
+
+-- ---- the code's answer as that record
+abbrev pub part_place : Option Part → ℕ
+part_place None = 0
+part_place (Some p) = p.at
+
+abbrev pub part_length : Option Part → ℕ
+part_length None = 0
+part_length (Some p) = p.len
+
+abbrev pub told : Told → Associate
+told a =
+    record {
+      refusal = NOT-REFUSED;
+      version = a.version;
+      application_at = a.application.at;
+      application_len = a.application.len;
+      maximum = a.maximum;
+      records = a.records;
+      class_at = part_place a.class;
+      class_len = part_length a.class;
+      version_name_at = part_place a.version_name;
+      version_name_len = part_length a.version_name;
+      invoked = a.invoked;
+      performed = a.performed;
+      roles = a.roles;
+    }
+
+abbrev pub associate_as : Result Told Refusal → Associate
+associate_as (Ok a) = told a
+associate_as (Err e) = refused (refusal_number e)
+
+-- a part that is told stands behind place 0, so that none is 0 and 0
+pub record Placed (a : Told) : Type 0 where
+  pub class : IfSome a.class (λ p. 0 < p.at)
+  pub version_name : IfSome a.version_name (λ p. 0 < p.at)

@@ -1,13 +1,22 @@
 -- A PDV by its number: "Reading a PDV by its number, from 0, hands back the fragment's own part of the gathered PDU. A number past the last is refused with 4." And one by its place.
-use Rattle.std.specs.Prelude.{ℕ, zero, suc, ◌+◌, ◌-◌, Bool, not, ◌&&◌, cond, List, [], ◌∷◌, length, take, drop, get_or, leb, ltb, eqb}
+use Rattle.std.specs.Prelude.{ℕ, zero, suc, ◌+◌, ◌-◌, Bool, not, ◌&&◌, cond, List, [], ◌∷◌, length, take, drop, get_or, leb, ltb, eqb, Result, Ok, Err}
 use Rattle.laws.specs.Refusals.{first_due}
-use Rattle.numbers.specs.Refusals.{NOT-REFUSED, BAD-CONTENTS, NO-SUCH-PDU}
+use Rattle.numbers.specs.Refusals.{NOT-REFUSED, BAD-CONTENTS, NO-SUCH-PDU, refusal_number}
+use Rattle.numbers.specs.declared.refusals.Refusal.{Refusal}
 use Rattle.numbers.specs.Kinds.{DATA-TF}
 use Rattle.numbers.specs.Lengths.{HEADER}
 use Rattle.octets.specs.Octets.{be32, odd}
 use Rattle.pdvs.specs.Data.{Pdv, pdvs, size}
 use Rattle.judging.specs.Pdu.{kind_of}
-use Rattle.reading.specs.declared.data.DataRead.{DataRead}
+use Rattle.reading.specs.declared.data.Pdv.{Pdv as Told}
+
+-- refusal: 0, or 7 or 4 with all else 0. The fragment starts at start, counted from the PDU's first byte, and has len bytes
+pub record DataRead : Type 0 where
+  pub refusal : ℕ
+  pub id : ℕ
+  pub control : ℕ
+  pub start : ℕ
+  pub len : ℕ
 
 -- the PDVs of a P-DATA-TF
 unfoldable pub pdvs_of : List ℕ → List Pdv
@@ -46,6 +55,11 @@ data_of pdu n =
       len = length (pdv (pdvs_of pdu) n).fragment;
     })
     (no_data (data_refusal pdu n))
+
+-- the code's answer as that record
+abbrev pub data_as : Result Told Refusal → DataRead
+data_as (Ok p) = record { refusal = NOT-REFUSED; id = p.id; control = p.control; start = p.start; len = p.len }
+data_as (Err e) = no_data (refusal_number e)
 
 -- the part of the PDU from that start, of that length: the fragment (DataLaws.fragment_is), and nothing where refused
 unfoldable pub fragment_of : List ℕ → ℕ → List ℕ

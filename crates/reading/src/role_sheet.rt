@@ -4,7 +4,10 @@ ghost use Rattle.numbers.specs.Lengths.{ROLE};
 ghost use Rattle.octets.specs.Private.Put.{Put};
 ghost use Rattle.reading.specs.Private.Records.{role_record, all_roles};
 
+use items::Items;
+
 // The role bytes stand behind the name, SCU's first.
+#[tactic(auto, using(crate::proofs::RoleLaws::role_laws))]
 fn put_role(sheet: &mut [u8], n: usize, b: &[u8]) -> usize
     requires { n + ROLE ≤ length sheet.old }
     ensures { Put sheet.old n (role_record b.now) result sheet.new }
@@ -17,22 +20,19 @@ fn put_role(sheet: &mut [u8], n: usize, b: &[u8]) -> usize
 }
 
 // u is the body of the 50H.
+#[tactic(auto, using(crate::proofs::FillLaws::fill_laws, crate::proofs::RoleLaws::fill_68))]
 pub(crate) fn put_roles(sheet: &mut [u8], u: &[u8]) -> usize
     requires { length (all_roles u.now) ≤ length sheet.old }
     ensures { Put sheet.old 0 (all_roles u.now) result sheet.new }
 {
     let mut n = 0;
-    let mut at = 0;
-    while at < u.len() {
-        let e = items::item_end(u, at);
-        if e == 0 {
+    for item in Items::of(u) {
+        let Ok(item) = item else {
             return n;
+        };
+        if item.kind == 0x54 {
+            n = put_role(sheet, n, item.body);
         }
-        if u[at] == 0x54 {
-            let b = at + 4;
-            n = put_role(sheet, n, &u[b..e]);
-        }
-        at = e;
     }
     n
 }

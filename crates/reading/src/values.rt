@@ -1,55 +1,44 @@
 // Reading an RJ and an ABORT.
 ghost use Rattle.std.specs.Prelude.{◌≡◌};
-ghost use Rattle.reading.specs.Values.{reject_in, abort_in};
+ghost use Rattle.reading.specs.Values.{reject_in, reject_as, abort_in, abort_as};
 
-// refusal: NOT_REFUSED, or NO_SUCH_PDU with all else 0.
-#[derive(Clone, Copy)]
-pub struct RejectRead {
-    pub refusal: u8,
+use crate::asked::of_kind;
+use numbers::{Kind, Refusal};
+
+#[derive(Clone, Copy, Debug, Default, PartialEq, Eq)]
+pub struct Reject {
     pub result: u8,
     pub source: u8,
     pub reason: u8,
 }
 
-#[derive(Clone, Copy)]
-pub struct AbortRead {
-    pub refusal: u8,
+#[derive(Clone, Copy, Debug, Default, PartialEq, Eq)]
+pub struct Abort {
     pub source: u8,
     pub reason: u8,
 }
 
-pub fn read_reject(pdu: &[u8]) -> RejectRead
-    ensures { result ≡ reject_in pdu.now }
+// Refused by NoSuchPdu alone.
+#[tactic(auto, using(crate::proofs::ValueLaws::value_laws))]
+pub fn read_reject(pdu: &[u8]) -> Result<Reject, Refusal>
+    ensures { reject_as result ≡ reject_in pdu.now }
 {
-    if judging::kind_of(pdu) != numbers::ASSOCIATE_RJ {
-        return RejectRead {
-            refusal: numbers::NO_SUCH_PDU,
-            result: 0,
-            source: 0,
-            reason: 0,
-        };
-    }
-    RejectRead {
-        refusal: numbers::NOT_REFUSED,
+    of_kind(Kind::AssociateRj, pdu)?;
+    Ok(Reject {
         result: pdu[7],
         source: pdu[8],
         reason: pdu[9],
-    }
+    })
 }
 
-pub fn read_abort(pdu: &[u8]) -> AbortRead
-    ensures { result ≡ abort_in pdu.now }
+// Refused by NoSuchPdu alone.
+#[tactic(auto, using(crate::proofs::ValueLaws::value_laws))]
+pub fn read_abort(pdu: &[u8]) -> Result<Abort, Refusal>
+    ensures { abort_as result ≡ abort_in pdu.now }
 {
-    if judging::kind_of(pdu) != numbers::ABORT {
-        return AbortRead {
-            refusal: numbers::NO_SUCH_PDU,
-            source: 0,
-            reason: 0,
-        };
-    }
-    AbortRead {
-        refusal: numbers::NOT_REFUSED,
+    of_kind(Kind::Abort, pdu)?;
+    Ok(Abort {
         source: pdu[8], // behind two reserved bytes
         reason: pdu[9], // it says something where the source is 2
-    }
+    })
 }

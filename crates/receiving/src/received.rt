@@ -12,12 +12,13 @@ ghost use Rattle.association.specs.Machine.{doing, upper};
 ghost use Rattle.receiving.specs.Private.Reactions.{Done};
 
 use association::{Answer, Assoc, Brings, Told};
+use numbers::Kind;
 
 // The event that a whole PDU brings to an association.
 fn event_of(a: Assoc, pdu: &[u8]) -> u8
     ensures { result ≡ event_of (standing a) pdu.now }
 {
-    association::event_of_kind(judging::kind_of(pdu))
+    association::event_of_kind(Kind::number(judging::kind_of(pdu)))
 }
 
 fn accepts_at(action: u8, pdu: &[u8]) -> bool

@@ -25,7 +25,7 @@ use Rattle.judging.specs.Pdu.{whole, pdu_length, version_of, top_items, accept_o
 use Rattle.judging.proofs.KindLaws.{whole_of, accept_items}
 use Rattle.sheets.specs.Sheet.{answer_sheet_of}
 use Rattle.reading.specs.Associate.{transfer_in, answer_of, answered, application_of, application_at, sub_items_of, sub_items_at, sub_item_at, sub_item_len, sheet_in, roles_sheet_in, refused, fields_of, associate_refusal, associate_of, filling, roles_filling, Read}
-use Rattle.reading.specs.declared.associate.Associate.{Associate}
+use Rattle.reading.specs.Associate.{Associate}
 use Rattle.refused_contexts.specs.Untested.{Around, body_with, item_with, counted_with, ac_with, Refused, Taken, further, moved, Alike}
 use Rattle.refused_contexts.proofs.Joined.{join, walk_join, join_filled, join_types, join_bodies}
 

@@ -7,7 +7,7 @@ use Rattle.octets.specs.Octets.{two, four}
 use Rattle.items.specs.Items.{walk, filled}
 use Rattle.judging.specs.Pdu.{kind_of, acceptable as acceptable_of, maximum_of}
 use Rattle.reading.specs.Associate.{application_of, sub_items_of, associate_of, filling, roles_filling}
-use Rattle.reading.specs.declared.associate.Associate.{Associate}
+use Rattle.reading.specs.Associate.{Associate}
 
 -- what stands in an AC around the bytes that follow the four of one of its 21H; reserved bytes as they come
 pub record Around : Type 0 where

@@ -1,51 +1,52 @@
 // The calls that read, judge or choose.
 use crate::buffers::{Buffer, IN_SHEET, SHEET};
-use crate::print::{Hex, Numbers, Told, print, yes_or_no};
+use crate::print::{Hex, Told, print, yes_or_no};
 use crate::words::Words;
-use reading::Associate;
+use numbers::{Kind, Refusal};
+use reading::{Associate, Pdv};
 
 // K PDU
 pub(crate) fn kind(rt: &impl Print, mut words: Words) -> Option<()> {
     let pdu = words.bytes()?;
     words.end()?;
-    let kind = judging::kind_of(pdu);
+    let kind = Kind::number(judging::kind_of(pdu));
     let acceptable = u8::from(judging::acceptable(pdu));
     let maximum = judging::maximum_of(pdu);
     let _ = println!(rt; "{kind} {acceptable} {maximum}");
     Some(())
 }
 
+fn fields_of(f: Associate) -> [u64; 12] {
+    let class = f.class.unwrap_or_default();
+    let version_name = f.version_name.unwrap_or_default();
+    [
+        u64::from(f.version),
+        f.application.at as u64,
+        f.application.len as u64,
+        u64::from(f.maximum),
+        f.records as u64,
+        class.at as u64,
+        class.len as u64,
+        version_name.at as u64,
+        version_name.len as u64,
+        u64::from(f.invoked),
+        u64::from(f.performed),
+        f.roles as u64,
+    ]
+}
+
 // Q PDU SHEETLEN ROLESLEN, A PDU SHEETLEN ROLESLEN
 pub(crate) fn associate<F>(rt: &impl Print, mut words: Words, read: F) -> Option<()>
 where
-    F: FnOnce(&[u8], &mut [u8], &mut [u8]) -> Associate,
+    F: FnOnce(&[u8], &mut [u8], &mut [u8]) -> Result<Associate, Refusal>,
     requires { F.IsAlwaysCallable read }
 {
     let pdu = words.bytes()?;
     let mut sheet: Buffer<SHEET> = Buffer::new(IN_SHEET, words.sheet_length()?);
     let mut roles: Buffer<SHEET> = Buffer::new(IN_SHEET, words.sheet_length()?);
     words.end()?;
-    let f = read(pdu, sheet.lend(), roles.lend());
-    print(
-        rt,
-        Numbers(&[
-            u64::from(f.refusal),
-            u64::from(f.version),
-            f.application_at as u64,
-            f.application_len as u64,
-            u64::from(f.maximum),
-            f.records as u64,
-            f.class_at as u64,
-            f.class_len as u64,
-            f.version_name_at as u64,
-            f.version_name_len as u64,
-            u64::from(f.invoked),
-            u64::from(f.performed),
-            f.roles as u64,
-            sheet.digest(),
-            roles.digest(),
-        ]),
-    );
+    let fields = read(pdu, sheet.lend(), roles.lend()).map(fields_of);
+    let _ = println!(rt; "{} {} {}", Told(fields), sheet.digest(), roles.digest());
     Some(())
 }
 
@@ -53,16 +54,13 @@ where
 pub(crate) fn reject(rt: &impl Print, mut words: Words) -> Option<()> {
     let pdu = words.bytes()?;
     words.end()?;
-    let f = reading::read_reject(pdu);
-    print(
-        rt,
-        Numbers(&[
-            u64::from(f.refusal),
-            u64::from(f.result),
-            u64::from(f.source),
-            u64::from(f.reason),
-        ]),
-    );
+    let read = reading::read_reject(pdu);
+    let fields = read.map(|f| [
+        u64::from(f.result),
+        u64::from(f.source),
+        u64::from(f.reason),
+    ]);
+    print(rt, Told(fields));
     Some(())
 }
 
@@ -70,16 +68,20 @@ pub(crate) fn reject(rt: &impl Print, mut words: Words) -> Option<()> {
 pub(crate) fn abort(rt: &impl Print, mut words: Words) -> Option<()> {
     let pdu = words.bytes()?;
     words.end()?;
-    let f = reading::read_abort(pdu);
-    print(
-        rt,
-        Numbers(&[
-            u64::from(f.refusal),
-            u64::from(f.source),
-            u64::from(f.reason),
-        ]),
-    );
+    let read = reading::read_abort(pdu);
+    let fields = read.map(|f| [u64::from(f.source), u64::from(f.reason)]);
+    print(rt, Told(fields));
     Some(())
+}
+
+fn fields_of_pdv(pdv: Pdv) -> [u64; 4] {
+    let Pdv {
+        id,
+        control,
+        start,
+        len,
+    } = pdv;
+    [u64::from(id), u64::from(control), start as u64, len as u64]
 }
 
 // D PDU NUMBER
@@ -87,16 +89,9 @@ pub(crate) fn data(rt: &impl Print, mut words: Words) -> Option<()> {
     let pdu = words.bytes()?;
     let number = words.count()?;
     words.end()?;
-    let f = reading::read_data(pdu, number);
-    let numbers = [
-        u64::from(f.refusal),
-        u64::from(f.id),
-        u64::from(f.control),
-        f.start as u64,
-        f.len as u64,
-    ];
+    let fields = reading::read_data(pdu, number).map(fields_of_pdv);
     let fragment = reading::fragment(pdu, number);
-    let _ = println!(rt; "{} {}", Numbers(&numbers), Hex(fragment));
+    let _ = println!(rt; "{} {}", Told(fields), Hex(fragment));
     Some(())
 }
 
@@ -105,17 +100,8 @@ pub(crate) fn pdv_at(rt: &impl Print, mut words: Words) -> Option<()> {
     let pdu = words.bytes()?;
     let at = words.count()?;
     words.end()?;
-    let f = reading::pdv_at(pdu, at);
-    print(
-        rt,
-        Numbers(&[
-            u64::from(f.refusal),
-            u64::from(f.id),
-            u64::from(f.control),
-            f.start as u64,
-            f.len as u64,
-        ]),
-    );
+    let fields = reading::pdv_at(pdu, at).map(fields_of_pdv);
+    print(rt, Told(fields));
     Some(())
 }
 
@@ -138,11 +124,9 @@ pub(crate) fn choose(rt: &impl Print, mut words: Words) -> Option<()> {
     let site = words.sheet()?;
     let mut sheet: Buffer<SHEET> = Buffer::new(IN_SHEET, words.sheet_length()?);
     words.end()?;
-    let c = choosing::choose(proposal, site, sheet.lend());
-    print(
-        rt,
-        Numbers(&[u64::from(c.refusal), c.records as u64, sheet.digest()]),
-    );
+    let chosen = choosing::choose(proposal, site, sheet.lend());
+    let records = chosen.map(|records| [records as u64]);
+    let _ = println!(rt; "{} {}", Told(records), sheet.digest());
     Some(())
 }
 

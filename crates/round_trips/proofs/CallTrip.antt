@@ -14,11 +14,9 @@ use Rattle.octets.proofs.PutLaws.{front_start, front_behind}
 use Rattle.pdvs.specs.Data.{Pdv, pdvs, pdv_bytes, pdv_fits}
 use Rattle.pdvs.proofs.Back.{pdvs_of_bytes}
 use Rattle.judging.specs.Pdu.{kind_of}
-use Rattle.reading.specs.Associate.{associate_of, filling, roles_filling, Read}
+use Rattle.reading.specs.Associate.{Associate, associate_of, filling, roles_filling, Read, associate_as}
 use Rattle.reading.specs.Values as values
-use Rattle.reading.specs.Data.{data_of, fragment_of}
-use Rattle.reading.specs.declared.associate.Associate.{Associate}
-use Rattle.reading.specs.declared.data.DataRead.{DataRead}
+use Rattle.reading.specs.Data.{DataRead, data_of, fragment_of}
 use Rattle.reading.proofs.read_request as read-request
 use Rattle.reading.proofs.read_accept as read-accept
 use Rattle.user_items.specs.Sent.{User}
@@ -61,10 +59,10 @@ module _ (kind : ℕ) (application : List ℕ) (u : User) (sheet pdu x s q s' q'
 
 -- whatever a reader of that kind answers
 read_back : (kind : ℕ) (Post : Out 3 read-request.Kinds.ps read-request.Kinds.r)
-    → ((c : ReadAssociate Post) → Read kind c.given.0.now c.given.1.0.now c.given.1.1.0.now c.answer c.left.1.0.now c.left.1.1.0.now)
+    → ((c : ReadAssociate Post) → Read kind c.given.0.now c.given.1.0.now c.given.1.1.0.now (associate_as c.answer) c.left.1.0.now c.left.1.1.0.now)
     → (application : List ℕ) (u : User) (sheet pdu : List ℕ) → AssociateTrip kind application u sheet pdu → ReadBack Post application u sheet pdu
 read_back kind Post p application u sheet pdu t d g h l =
-    same_fields kind application u sheet pdu d.given.0.now d.given.1.0.now d.given.1.1.0.now d.left.1.0.now d.left.1.1.0.now d.answer g (p d) t h l
+    same_fields kind application u sheet pdu d.given.0.now d.given.1.0.now d.given.1.1.0.now d.left.1.0.now d.left.1.1.0.now (associate_as d.answer) g (p d) t h l
 
 -- the part that `fragment` hands back
 part_is : (s r : Bor (List ℕ)) (pdu : List ℕ) (n : ℕ) {at : ℕ} {bs : List ℕ} → s.now ≡ pdu → PartOf s (data_of s.now n).start (fragment_of s.now n) r
@@ -87,7 +85,7 @@ request_call c z =
       kind = judged pdu 1 t.kind;
       called = t.called;
       calling = t.calling;
-      read = read_back 1 read-request.Reads.Post (λ d. d.permitted) f.application f.user f.sheet pdu t.fields;
+      read = read_back 1 read-request.Reads.Post (λ d. d.permitted.0) f.application f.user f.sheet pdu t.fields;
     }
 
 pub accept_call : (c : WriteAccept) → (sent c.answer).refusal ≡ 0 → AcceptBack (accept_given c) (bytes_written (sent c.answer) (accept_out c))
@@ -99,7 +97,7 @@ accept_call c z =
     record {
       kind = judged pdu 2 t.kind;
       echoed = t.echoed;
-      read = read_back 2 read-accept.Reads.Post (λ d. d.permitted) f.application f.user f.sheet pdu t.fields;
+      read = read_back 2 read-accept.Reads.Post (λ d. d.permitted.0) f.application f.user f.sheet pdu t.fields;
     }
 
 pub reject_call : (c : WriteReject) → (sent c.answer).refusal ≡ 0 → RejectBack (reject_of c.given.0 c.given.1.0 c.given.1.1.0) (bytes_written (sent c.answer) c.left.1.1.1.0.now)

@@ -4,13 +4,14 @@ use contract.Lifetimes.{Lfts}
 use denote.Triple.Clauses.{AtExit}
 use borrow.Fn.Kinds.{ParamKind, ResultKind, Dens, res_t, ended_of, Out}
 use Rattle.numbers.specs.Refusals.{NOT-REFUSED}
-use Rattle.numbers.specs.Kinds.{ASSOCIATE-RQ, ASSOCIATE-AC, ASSOCIATE-RJ, DATA-TF, ABORT}
+use Rattle.numbers.specs.Kinds.{ASSOCIATE-RQ, ASSOCIATE-AC, ASSOCIATE-RJ, DATA-TF, ABORT, kind_number}
 use Rattle.octets.specs.Slice.{PartOf}
 use Rattle.pdvs.specs.Data.{Pdv}
 use Rattle.judging.specs.Pdu.{called_of, calling_of}
 use Rattle.judging.proofs.kind_of as kind-of
-use Rattle.reading.specs.Data.{pdv}
-use Rattle.reading.specs.declared.associate.Associate.{Associate}
+use Rattle.reading.specs.Data.{pdv, data_as}
+use Rattle.reading.specs.Values.{reject_as, abort_as}
+use Rattle.reading.specs.Associate.{Associate, associate_as}
 use Rattle.reading.proofs.read_request as read-request
 use Rattle.reading.proofs.read_accept as read-accept
 use Rattle.reading.proofs.read_reject as read-reject
@@ -107,9 +108,9 @@ abbrev pub bytes_written : Sent → List ℕ → List ℕ
 bytes_written r out = take r.count out
 
 -- ---- bytes that are read back
--- `kind_of` answers this kind
+-- `kind_of` answers the kind of this number
 abbrev pub Judged : List ℕ → ℕ → Type 0
-Judged pdu k = (c : KindOf) → c.given.0.now ≡ pdu → c.answer ≡ k
+Judged pdu k = (c : KindOf) → c.given.0.now ≡ pdu → kind_number c.answer ≡ k
 
 -- s' starts with these bytes, and behind them nothing of s is changed
 pub record StartsWith (bs s s' : List ℕ) : Type 0 where
@@ -130,7 +131,7 @@ pub record SameFields (application : List ℕ) (u : User) (sheet pdu s q : List 
 abbrev pub ReadBack : Out 3 read-request.Kinds.ps read-request.Kinds.r → List ℕ → User → List ℕ → List ℕ → Type 0
 ReadBack Post application u sheet pdu =
     (c : ReadAssociate Post) → c.given.0.now ≡ pdu → length sheet ≤ length c.given.1.0.now → length u.roles ≤ length c.given.1.1.0.now
-    → SameFields application u sheet pdu c.given.1.0.now c.given.1.1.0.now c.answer c.left.1.0.now c.left.1.1.0.now
+    → SameFields application u sheet pdu c.given.1.0.now c.given.1.1.0.now (associate_as c.answer) c.left.1.0.now c.left.1.1.0.now
 
 -- as an RQ with the fields f, the titles at their fixed places
 pub record RequestBack (f : RqFields) (pdu : List ℕ) : Type 0 where
@@ -148,14 +149,14 @@ pub record AcceptBack (f : AcFields) (pdu : List ℕ) : Type 0 where
 -- as an RJ and an ABORT with the values f
 pub record RejectBack (f : Reject) (pdu : List ℕ) : Type 0 where
   pub kind : Judged pdu ASSOCIATE-RJ
-  pub read : (c : ReadReject) → c.given.0.now ≡ pdu → c.answer ≡ record { refusal = NOT-REFUSED; result = f.result; source = f.source; reason = f.reason }
+  pub read : (c : ReadReject) → c.given.0.now ≡ pdu → reject_as c.answer ≡ record { refusal = NOT-REFUSED; result = f.result; source = f.source; reason = f.reason }
 
 pub record AbortBack (f : Abort) (pdu : List ℕ) : Type 0 where
   pub kind : Judged pdu ABORT
-  pub read : (c : ReadAbort) → c.given.0.now ≡ pdu → c.answer ≡ record { refusal = NOT-REFUSED; source = f.source; reason = f.reason }
+  pub read : (c : ReadAbort) → c.given.0.now ≡ pdu → abort_as c.answer ≡ record { refusal = NOT-REFUSED; source = f.source; reason = f.reason }
 
 -- as a P-DATA-TF of the PDVs ps: each by its number, its fragment the caller's own part; past the last refused, with the empty part
 pub record DataBack (ps : List Pdv) (pdu : List ℕ) : Type 0 where
   pub kind : Judged pdu DATA-TF
-  pub read : (c : ReadData) → c.given.0.now ≡ pdu → c.answer ≡ pdv_read ps c.given.1.0
+  pub read : (c : ReadData) → c.given.0.now ≡ pdu → data_as c.answer ≡ pdv_read ps c.given.1.0
   pub own : (c : Fragment) → c.given.0.now ≡ pdu → PartOf c.given.0 (pdv_read ps c.given.1.0).start (pdv ps c.given.1.0).fragment c.answer

@@ -15,8 +15,8 @@ use Rattle.sheets.specs.Sheet.{contexts_in, answers_in}
 use Rattle.reading.specs.Associate.{proposed, answered, application_of, sub_items_of, sheet_in, roles_sheet_in, associate_of, filling, roles_filling}
 use Rattle.reading.specs.Values as values
 use Rattle.reading.specs.Data.{pdv, start_of, no_data, data_of, fragment_of}
-use Rattle.reading.specs.declared.associate.Associate.{Associate}
-use Rattle.reading.specs.declared.data.DataRead.{DataRead}
+use Rattle.reading.specs.Associate.{Associate}
+use Rattle.reading.specs.Data.{DataRead}
 use Rattle.writing.specs.Fields.{RqFields, AcFields, Reject, Items, Abort}
 use Rattle.writing.specs.Form.{Form, form_refusal}
 

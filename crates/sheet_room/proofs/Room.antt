@@ -32,7 +32,7 @@ use Rattle.sheets.specs.Sheet.{context_records, sheet_of, records_of, record_id,
 use Rattle.sheets.proofs.RecordLaws.{record_length}
 use Rattle.sheets.proofs.Inverse.{answers_answered, answers_length}
 use Rattle.reading.specs.Associate.{context_of, answer_of, proposed, answered, sub_items_of, sheet_in, roles_sheet_in, associate_refusal, Read}
-use Rattle.reading.specs.declared.associate.Associate.{Associate}
+use Rattle.reading.specs.Associate.{Associate}
 use Rattle.reading.proofs.ReadLaws.{either}
 use Rattle.reading.proofs.Meaning.{refusal_is, roles_room, request_records, accept_sheet_good, accept_sheet_back}
 use Rattle.sheet_room.proofs.Sizes.{sizes, sizes_of, sizes_most, by_items, size_filled}

@@ -30,7 +30,7 @@ use Rattle.sheets.specs.Contexts.{Context, Answered, context_id, context_ok, con
 use Rattle.sheets.specs.Sheet.{record_id, records_of, goes_on, others, start, sheet_runs, contexts_in, answers_in, proposal_ok, site_ok}
 use Rattle.sheets.proofs.Inverse.{proposal_contexts}
 use Rattle.reading.specs.Associate.{proposed, application_of, sheet_in, fields_of, associate_refusal, associate_of, filling, Read}
-use Rattle.reading.specs.declared.associate.Associate.{Associate}
+use Rattle.reading.specs.Associate.{Associate}
 use Rattle.reading.proofs.Meaning.{refusal_is, request_sheet_good, request_sheet_back, request_records, application_stands}
 use Rattle.writing.specs.Fields.{AcFields, ac_good}
 use Rattle.writing.specs.Cases.{added}

@@ -5,7 +5,7 @@ use Rattle.numbers.specs.Lengths.{BUFFER, RECORD}
 use Rattle.numbers.specs.Refusals.{NOT-REFUSED}
 use Rattle.sheets.specs.Sheet.{site_ok}
 use Rattle.reading.specs.Associate.{proposed, answered, Read}
-use Rattle.reading.specs.declared.associate.Associate.{Associate}
+use Rattle.reading.specs.Associate.{Associate}
 use Rattle.choosing.specs.Choice.{site_in, chosen_for}
 use Rattle.choosing.specs.Call.{Chose}
 use Rattle.choosing.specs.declared.Chosen.{Chosen}

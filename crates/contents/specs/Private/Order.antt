@@ -1,6 +1,6 @@
 -- For the private functions: the order of the known items as the loops follow it, with a number for what came so far (OrderLaws: it comes to `subs_ok`
--- and `top_ok`), and the ID of the context that stands at a place.
-use Rattle.std.specs.Prelude.{ℕ, ◌+◌, ◌-◌, Bool, true, cond, List, take, drop, get_or, eqb}
+-- and `top_ok`).
+use Rattle.std.specs.Prelude.{ℕ, Bool, true, cond, List, eqb}
 use Rattle.names.specs.Name.{name_ok}
 use Rattle.items.specs.Private.Rules.{Rule}
 use Rattle.contents.specs.Contents.{top_good}
@@ -31,7 +31,3 @@ sub_rule = in_order sub_good 0x30 0x40 0x40 2
 -- ---- in an RQ or an AC
 abbrev pub top_rule : ℕ → Rule
 top_rule k = in_order (top_good k) 0x10 k 0x50 3
-
--- ---- the IDs
-unfoldable pub id_at : List ℕ → ℕ → ℕ → ℕ
-id_at s at e = get_or (take (e - (at + 4)) (drop (at + 4) s)) 0 0

@@ -1,20 +1,22 @@
 -- For the private functions: the records of the contexts and of the roles in an RQ or AC, and its other fields. Names longer than a field are cut, which no valid PDU has.
-use Rattle.std.specs.Prelude.{ℕ, ◌+◌, ◌*◌, ◌≡◌, cond, List, [], ◌∷◌, ◌++◌, length, eqb}
+use Rattle.std.specs.Prelude.{ℕ, ◌+◌, ◌*◌, ◌≡◌, cond, List, [], ◌∷◌, ◌++◌, length, eqb, Option, None, Some}
 use Rattle.laws.specs.Lists.{empty}
-use Rattle.numbers.specs.Kinds.{ASSOCIATE-RQ}
+use Rattle.numbers.specs.Kinds.{ASSOCIATE-RQ, ASSOCIATE-AC}
 use Rattle.numbers.specs.Lengths.{RECORD, ROLE}
 use Rattle.octets.specs.Put.{front}
-use Rattle.items.specs.Items.{Walk, walk, bodies, place}
+use Rattle.items.specs.Items.{Walk, walk, bodies, first, place}
 use Rattle.contents.specs.Contents.{maximum_in}
 use Rattle.judging.specs.Pdu.{version_of, top_items}
 use Rattle.sheets.specs.Record.{record_of}
 use Rattle.roles.specs.Record.{record_of as role_record_of}
 use Rattle.user_items.specs.Kinds.{role_of}
 use Rattle.user_items.specs.Said.{invoked_said, performed_said}
-use Rattle.reading.specs.Associate.{context_of, answer_of, application_of, application_at, sub_items_of, sub_item_at, sub_item_len, sheet_in, roles_sheet_in}
+use Rattle.reading.specs.Associate.{context_of, answer_of, application_of, application_at, sub_items_of, sub_items_at, sheet_in, roles_sheet_in}
 use Rattle.reading.specs.declared.associate.Associate.{Associate}
-use Rattle.reading.specs.declared.two_sheets.Counts.{Counts}
-use Rattle.reading.specs.declared.user.UserRead.{UserRead}
+use Rattle.reading.specs.declared.user.Part.{Part}
+use Rattle.reading.specs.declared.valid.Counts.{Counts}
+use Rattle.reading.specs.declared.valid.Side.{Side}
+use Rattle.reading.specs.declared.valid.Side.TheVariants.{Request, Accept}
 
 -- f of each, one behind the other
 unfoldable pub each : (List ℕ → List ℕ) → List (List ℕ) → List ℕ
@@ -30,6 +32,11 @@ body_records k b =
 -- those of all contexts
 abbrev pub all_records : ℕ → List ℕ → List ℕ
 all_records k s = each (body_records k) (bodies k (walk s))
+
+-- the kind of either
+abbrev pub number_of : Side → ℕ
+number_of Request = ASSOCIATE-RQ
+number_of Accept = ASSOCIATE-AC
 
 -- the type of a context in a PDU of this kind
 unfoldable pub context_type : ℕ → ℕ
@@ -53,36 +60,23 @@ pub record Filled (kind : ℕ) (pdu s t s' t' : List ℕ) : Type 0 where
   pub sheet : s' ≡ front s (sheet_in kind pdu)
   pub roles : t' ≡ front t (roles_sheet_in pdu)
 
--- where the body of the first item of a type stands, for items that stand from a place on
-unfoldable pub body_at : ℕ → ℕ → Walk → ℕ
-body_at t from w = cond (empty (bodies t w)) 0 (from + place t w)
+-- where the body of the first item of a type stands, and its length, for items that stand from a place on
+unfoldable pub part_at : ℕ → ℕ → Walk → Option Part
+part_at t from w = cond (empty (bodies t w)) None (Some (record { at = from + place t w; len = length (first (bodies t w)) }))
 
--- the fields of the user information
-unfoldable pub user_in : List ℕ → UserRead
-user_in pdu =
-    record {
-      class_at = sub_item_at 0x52 pdu;
-      class_len = sub_item_len 0x52 pdu;
-      version_name_at = sub_item_at 0x55 pdu;
-      version_name_len = sub_item_len 0x55 pdu;
-      invoked = invoked_said (sub_items_of pdu);
-      performed = performed_said (sub_items_of pdu);
-    }
+abbrev pub sub_part : ℕ → List ℕ → Option Part
+sub_part t pdu = part_at t (sub_items_at pdu) (sub_items_of pdu)
 
 -- the fields of an RQ or AC that gives so many records and roles
 unfoldable pub fields_with : List ℕ → ℕ → ℕ → Associate
 fields_with pdu n m =
     record {
-      refusal = 0;
       version = version_of pdu;
-      application_at = application_at pdu;
-      application_len = length (application_of pdu);
+      application = record { at = application_at pdu; len = length (application_of pdu) };
       maximum = maximum_in (top_items pdu);
       records = n;
-      class_at = sub_item_at 0x52 pdu;
-      class_len = sub_item_len 0x52 pdu;
-      version_name_at = sub_item_at 0x55 pdu;
-      version_name_len = sub_item_len 0x55 pdu;
+      class = sub_part 0x52 pdu;
+      version_name = sub_part 0x55 pdu;
       invoked = invoked_said (sub_items_of pdu);
       performed = performed_said (sub_items_of pdu);
       roles = m;

@@ -1,5 +1,5 @@
 -- For the private functions: the sub-items of any list of kinds in one pass. KindLaws.passes_is says what it comes to.
-use Rattle.std.specs.Prelude.{ℕ, ◌+◌, ◌-◌, Bool, true, false, not, ◌&&◌, cond, List, [], ◌∷◌, map, take, drop, get_or, eqb}
+use Rattle.std.specs.Prelude.{ℕ, Bool, true, false, not, ◌&&◌, cond, List, [], ◌∷◌, map, eqb}
 use Rattle.laws.specs.Lists.{any, among, same_bytes}
 use Rattle.items.specs.Items.{Walk, done, broken, item, bodies}
 use Rattle.user_items.specs.Kinds.{Kind, alike}
@@ -22,10 +22,6 @@ once_in (k ∷ ks) t = cond (eqb t k.type) k.once (once_in ks t)
 -- a sub-item of type t has x for what must not come twice
 unfoldable pub comes : (List ℕ → List ℕ) → ℕ → List ℕ → Walk → Bool
 comes once t x w = any (same_bytes x) (map once (bodies t w))
-
--- the one that stands at a place and ends at e is such a sub-item
-unfoldable pub same_at : (List ℕ → List ℕ) → ℕ → List ℕ → List ℕ → ℕ → ℕ → Bool
-same_at once t x s at e = eqb (get_or s at 0) t && same_bytes x (once (take (e - (at + 4)) (drop (at + 4) s)))
 
 -- a sub-item, with those behind it
 unfoldable pub sub_ok : List Kind → ℕ → List ℕ → Walk → Bool

@@ -1,7 +1,5 @@
 -- Where the part lies, and its bytes.
-use Rattle.std.proofs.Common.{rules, refl, arith, ◌≡◌, min, length, ◌+◌}
-use Rattle.octets.specs.Octets.{be16}
-use Rattle.user_items.specs.Kinds.{uid_from}
+use Rattle.std.proofs.Common.{rules, refl, arith}
 use Rattle.user_items.proofs.BodyLaws.{uid_none, from_none, from_two, uid_cut}
 use Rattle.user_items.proofs.body.uid_in.Goals as goal
 
