@@ -11,7 +11,10 @@ use lib.Dec.{ltb}
 use borrow.Author.Rules.{rules}
 use borrow.Author.Tests.{lt-ltb, le-ltb, not-true, not-false}
 use Rattle.numbers.specs.Lengths.{RECORD}
-use Rattle.numbers.specs.Refusals.{NOT-REFUSED, SHORT-OUTPUT, BAD-CONTENTS}
+use Rattle.std.specs.Prelude.{Result, Ok, Err}
+use Rattle.numbers.specs.declared.refusals.Refusal.{Refusal}
+use Rattle.numbers.specs.Refusals.{NOT-REFUSED, SHORT-OUTPUT, BAD-CONTENTS, refusal_in}
+use Rattle.numbers.proofs.NumberLaws.{answer_once}
 use Rattle.octets.specs.Put.{front, Placed}
 use Rattle.octets.specs.Private.Put.{Put}
 use Rattle.octets.proofs.PutLaws.{Putting, putting_start, putting_next, putting_done, put_front, placed_put}
@@ -20,8 +23,7 @@ use Rattle.sheets.proofs.RecordLaws.{transfer_most, record_length}
 use Rattle.sheets.proofs.RunLaws.{contexts_none}
 use Rattle.sheets.proofs.Inverse.{proposal_whole, site_whole}
 use Rattle.choosing.specs.Choice.{liked_of, site_in, matches, transfer_for, chosen, chosen_for}
-use Rattle.choosing.specs.Call.{chosen_sheet, choose_refusal, none_chosen, chosen_of, chosen_bytes, Chose}
-use Rattle.choosing.specs.declared.Chosen.{Chosen}
+use Rattle.choosing.specs.Call.{Chosen, chosen_as, chosen_sheet, choose_refusal, none_chosen, chosen_of, chosen_bytes, Chose}
 use Rattle.choosing.specs.Private.Runs.{run_context, Run, answer_bytes}
 use Rattle.choosing.proofs.RunLaws.{run_length}
 
@@ -113,17 +115,17 @@ module _ (o₀ s site o : List ℕ) (n at : ℕ) (v : Reached o₀ s site o n at
 pub ruleset put_laws = (rules, put_start, put_place, put_long, put_from, put_to, put_run, put_records, put_less, put_whole, put_next, put_done)
 
 -- ---- `choose`
-pub bad_proposal : (s site o : List ℕ) (b : Bool) (r : Chosen) → b ≡ proposal_ok s → not b ≡ true → r ≡ none_chosen BAD-CONTENTS → Chose s site o r o
+pub bad_proposal : (s site o : List ℕ) (b : Bool) → b ≡ proposal_ok s → not b ≡ true → Chose s site o (none_chosen BAD-CONTENTS) o
 unfolding chosen_of chosen_bytes choose_refusal front
-bad_proposal s site o b r e t q = let k : proposal_ok s ≡ false = sym e ∙ not-true b t in record { answer = q ∙ simp k; sheet = simp k }
+bad_proposal s site o b e t = let k : proposal_ok s ≡ false = sym e ∙ not-true b t in record { answer = simp k; sheet = simp k }
 
 module _ (s site o : List ℕ) (b : Bool) (e : b ≡ proposal_ok s) (t : not b ≡ false) (d : Bool) (f : d ≡ site_ok site) where
   good_proposal : proposal_ok s ≡ true
   good_proposal = sym e ∙ not-false b t
 
-  pub bad_site : (r : Chosen) → not d ≡ true → r ≡ none_chosen BAD-CONTENTS → Chose s site o r o
+  pub bad_site : not d ≡ true → Chose s site o (none_chosen BAD-CONTENTS) o
   unfolding chosen_of chosen_bytes choose_refusal front
-  bad_site r u q = let k : site_ok site ≡ false = sym f ∙ not-true d u in record { answer = q ∙ simp (good_proposal, k); sheet = simp (good_proposal, k) }
+  bad_site u = let k : site_ok site ≡ false = sym f ∙ not-true d u in record { answer = simp (good_proposal, k); sheet = simp (good_proposal, k) }
 
   pub good_whole : length s % RECORD ≡ 0
   good_whole = proposal_whole s good_proposal
@@ -136,11 +138,11 @@ module _ (s site o : List ℕ) (b : Bool) (e : b ≡ proposal_ok s) (t : not b �
     good_records = site_whole site good_site
 
     module _ (n : ℕ) (k : n ≡ length (contexts_in s)) where
-      pub no_room : (r : Chosen) → length o / 132 < n → r ≡ none_chosen SHORT-OUTPUT → Chose s site o r o
+      pub no_room : length o / 132 < n → Chose s site o (none_chosen SHORT-OUTPUT) o
       unfolding chosen_of chosen_bytes choose_refusal front
-      no_room r h q =
+      no_room h =
           let l : ltb (length o) (RECORD * length (contexts_in s)) ≡ true = lt-ltb (length o) (RECORD * length (contexts_in s)) (omega arith) in
-          record { answer = q ∙ simp (good_proposal, good_site, l); sheet = simp (good_proposal, good_site, l) }
+          record { answer = simp (good_proposal, good_site, l); sheet = simp (good_proposal, good_site, l) }
 
       pub some_room : n ≤ length o / 132 → RECORD * length (contexts_in s) ≤ length o
       some_room h = omega arith
@@ -152,3 +154,15 @@ module _ (s site o : List ℕ) (b : Bool) (e : b ≡ proposal_ok s) (t : not b �
           record { answer = simp (good_proposal, good_site, l, k); sheet = p.out ∙ (rw (put_front o (chosen_sheet s site)) (simp (good_proposal, good_site, l))) }
 
 pub ruleset choose_laws = (rules, bad_proposal, bad_site, good_whole, good_records, no_room, some_room, all_chosen)
+
+-- an answer is told by its fields
+pub chosen_once : (a b : Result ℕ Refusal) → chosen_as a ≡ chosen_as b → a ≡ b
+chosen_once a b e = answer_once a b (refusals a b (ap (λ (c : Chosen). c.refusal) e)) (counts a b e)
+  where
+    refusals : (a b : Result ℕ Refusal) → (chosen_as a).refusal ≡ (chosen_as b).refusal → refusal_in a ≡ refusal_in b
+    refusals (Ok x) (Ok y) e = e
+    refusals (Ok x) (Err m) e = e
+    refusals (Err n) (Ok y) e = e
+    refusals (Err n) (Err m) e = e
+    counts : (a b : Result ℕ Refusal) → chosen_as a ≡ chosen_as b → (x y : ℕ) → a ≡ Ok x → b ≡ Ok y → x ≡ y
+    counts a b e x y p q = ap (λ (c : Chosen). c.records) (ap chosen_as (sym p) ∙ (e ∙ ap chosen_as q))

@@ -1,12 +1,17 @@
 -- The call: "Given a received proposal, write the answer sheet .. Refusals: 4 for either bad sheet, then 2."
-use Rattle.std.specs.Prelude.{ℕ, ◌*◌, ◌≡◌, Bool, not, cond, List, [], ◌∷◌, length, ltb, eqb}
+use Rattle.std.specs.Prelude.{ℕ, ◌*◌, ◌≡◌, Bool, not, cond, List, [], ◌∷◌, Result, Ok, Err, length, ltb, eqb}
 use Rattle.laws.specs.Refusals.{first_due}
-use Rattle.numbers.specs.Refusals.{NOT-REFUSED, SHORT-OUTPUT, BAD-CONTENTS}
+use Rattle.numbers.specs.declared.refusals.Refusal.{Refusal}
+use Rattle.numbers.specs.Refusals.{NOT-REFUSED, SHORT-OUTPUT, BAD-CONTENTS, refusal_number}
 use Rattle.numbers.specs.Lengths.{RECORD}
 use Rattle.octets.specs.Put.{front}
 use Rattle.sheets.specs.Sheet.{answer_sheet_of, contexts_in, proposal_ok, site_ok}
 use Rattle.choosing.specs.Choice.{site_in, chosen_for}
-use Rattle.choosing.specs.declared.Chosen.{Chosen}
+
+-- refusal: 0, or 4 or 2 with no record. records: how many the answer sheet starts with
+pub record Chosen : Type 0 where
+  pub refusal : ℕ
+  pub records : ℕ
 
 -- the answer sheet
 unfoldable pub chosen_sheet : List ℕ → List ℕ → List ℕ
@@ -26,6 +31,11 @@ choose_refusal proposal site room = first_due (choose_tests proposal site room)
 -- refused: no record
 abbrev pub none_chosen : ℕ → Chosen
 none_chosen n = record { refusal = n; records = 0 }
+
+-- what the code answers
+abbrev pub chosen_as : Result ℕ Refusal → Chosen
+chosen_as (Ok n) = record { refusal = NOT-REFUSED; records = n }
+chosen_as (Err e) = none_chosen (refusal_number e)
 
 -- answered: a record for each context
 unfoldable pub chosen_of : List ℕ → List ℕ → ℕ → Chosen

@@ -8,26 +8,11 @@ ghost use Rattle.std.specs.Prelude.{◌≡◌, ◌*◌, ◌%◌, ◌≤◌, leng
 ghost use Rattle.numbers.specs.Lengths.{RECORD};
 ghost use Rattle.octets.specs.Private.Put.{Put};
 ghost use Rattle.sheets.specs.Sheet.{contexts_in};
-ghost use Rattle.choosing.specs.Call.{chosen_sheet, none_chosen, Chose};
+ghost use Rattle.choosing.specs.Call.{chosen_sheet, chosen_as, Chose};
 
 use crate::answer::answer_to;
 use crate::runs::{count, run_end};
-
-// refusal: NOT_REFUSED, or BAD_CONTENTS or SHORT_OUTPUT with no record. records: how many the answer sheet starts with.
-#[derive(Clone, Copy)]
-pub struct Chosen {
-    pub refusal: u8,
-    pub records: usize,
-}
-
-fn refused(refusal: u8) -> Chosen
-    ensures { result ≡ none_chosen refusal }
-{
-    Chosen {
-        refusal: refusal,
-        records: 0,
-    }
-}
+use numbers::Refusal;
 
 // Writes the answers, a record for each context.
 fn put_answers(answer: &mut [u8], proposal: &[u8], site: &[u8]) -> usize
@@ -45,23 +30,20 @@ fn put_answers(answer: &mut [u8], proposal: &[u8], site: &[u8]) -> usize
     n
 }
 
-// Chooses for each context of the proposal: the first record of the site's sheet that matches it, or none.
-pub fn choose(proposal: &[u8], site: &[u8], answer: &mut [u8]) -> Chosen
-    ensures { Chose proposal.now site.now answer.old result answer.new }
+// Chooses for each context of the proposal: the first record of the site's sheet that matches it, or none. Answers how many records the answer sheet starts with.
+pub fn choose(proposal: &[u8], site: &[u8], answer: &mut [u8]) -> Result<usize, Refusal>
+    ensures { Chose proposal.now site.now answer.old (chosen_as result) answer.new }
 {
     if !sheets::proposal_ok(proposal) {
-        return refused(numbers::BAD_CONTENTS);
+        return Err(Refusal::BadContents);
     }
     if !sheets::site_ok(site) {
-        return refused(numbers::BAD_CONTENTS);
+        return Err(Refusal::BadContents);
     }
     let n = count(proposal);
     if answer.len() / numbers::RECORD < n {
-        return refused(numbers::SHORT_OUTPUT);
+        return Err(Refusal::ShortOutput);
     }
     put_answers(answer, proposal, site);
-    Chosen {
-        refusal: numbers::NOT_REFUSED,
-        records: n,
-    }
+    Ok(n)
 }

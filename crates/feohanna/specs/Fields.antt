@@ -1,10 +1,9 @@
 -- The answers of the reading calls and of choosing, from the numbers that are handed out one by one.
 use Rattle.std.specs.Prelude.{ℕ}
 use Rattle.reading.specs.Associate.{Associate}
-use Rattle.reading.specs.Values.{RejectRead}
-use Rattle.reading.specs.Values.{AbortRead}
+use Rattle.reading.specs.Values.{RejectRead, AbortRead}
 use Rattle.reading.specs.Data.{DataRead}
-use Rattle.choosing.specs.declared.Chosen.{Chosen}
+use Rattle.choosing.specs.Call.{Chosen}
 
 abbrev pub associate : ℕ → ℕ → ℕ → ℕ → ℕ → ℕ → ℕ → ℕ → ℕ → ℕ → ℕ → ℕ → ℕ → Associate
 associate refusal version at len maximum records classAt classLen versionAt versionLen invoked performed roles =

@@ -11,7 +11,14 @@ pub extern "C" fn feo_raw_choose(
 ) -> u8
     ensures { Chose proposal.now site.now answer.old (chosen_fields result records.new) answer.new }
 {
-    let c = choosing::choose(proposal, site, answer);
-    *records = c.records;
-    c.refusal
+    match choosing::choose(proposal, site, answer) {
+        Ok(n) => {
+            *records = n;
+            numbers::NOT_REFUSED
+        }
+        Err(refusal) => {
+            *records = 0;
+            refusal.number()
+        }
+    }
 }

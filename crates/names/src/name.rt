@@ -1,39 +1,26 @@
 // A name (UID), read in one pass.
-ghost use Rattle.std.specs.Prelude.{◌≡◌};
+ghost use Rattle.std.specs.Prelude.{◌≡◌, Some};
 ghost use Rattle.names.specs.Name.{name_ok};
-ghost use Rattle.names.specs.Private.OnePass.{next as nextPart};
+ghost use Rattle.names.specs.Private.OnePass.{next as next_part};
 
 // What has been read of a name's present component.
-#[derive(Drop)]
+#[derive(Clone, Copy)]
 enum Part {
     Start,
     Zero,
     Digits,
-    Bad,
 }
 
-fn next(p: Part, b: u8) -> Part
-    ensures { result ≡ nextPart p b }
+// What has been read with one byte more; None where no name goes on so.
+fn next(part: Part, b: u8) -> Option<Part>
+    ensures { result ≡ next_part (Some part) b }
 {
-    if b == b'.' {
-        return match p {
-            Part::Start => Part::Bad,
-            Part::Zero => Part::Start,
-            Part::Digits => Part::Start,
-            Part::Bad => Part::Bad,
-        };
-    }
-    if b < b'0' {
-        return Part::Bad;
-    }
-    if b'9' < b {
-        return Part::Bad;
-    }
-    match p {
-        Part::Start => { if b == b'0' { Part::Zero } else { Part::Digits } }
-        Part::Zero => Part::Bad,
-        Part::Digits => Part::Digits,
-        Part::Bad => Part::Bad,
+    match (part, b) {
+        (Part::Zero | Part::Digits, b'.') => Some(Part::Start),
+        (Part::Start, b'0') => Some(Part::Zero),
+        (Part::Start, b'1'..=b'9') => Some(Part::Digits),
+        (Part::Digits, b'0'..=b'9') => Some(Part::Digits),
+        _ => None,
     }
 }
 
@@ -44,16 +31,16 @@ pub fn name_ok(s: &[u8]) -> bool
     if 64 < s.len() {
         return false;
     }
-    let mut p = Part::Start;
-    let mut i = 0;
-    while i < s.len() {
-        p = next(p, s[i]);
-        i += 1;
+    let mut part = Part::Start;
+    for b in s {
+        let Some(read) = next(part, *b) else {
+            return false;
+        };
+        part = read;
     }
-    match p {
+    match part {
+        Part::Start => false,
         Part::Zero => true,
         Part::Digits => true,
-        Part::Start => false,
-        Part::Bad => false,
     }
 }

@@ -105,6 +105,14 @@ module _ (a : ℕ) (p : Bool) where
   unfolding next_of
   next_other q r h l e = e ∙ (next_column a ∙ sym (ap (λ (d : Does). d.next) (other_18 a p q l ∙ other_6 a p h)))
 
+  pub next_below : (q : Bool) → a < 1 → 0 ≡ next_of a p q
+  unfolding next_of does_of actions
+  next_below q h = let z : a ≡ 0 = omega arith in rw z
+
+  pub next_past : (q : Bool) → 28 < a → 0 ≡ next_of a p q
+  unfolding nexts does_of actions
+  next_past q h = next_other q 0 (λ e. omega arith) (λ e. omega arith) (at_past nexts a refl h)
+
   -- ---- the other columns
   elsewhere : (f : Does → ℕ) → (a ≡ AE-6 → ⊥) → get_or (map f (actions false false)) a (f (does_of 0 false false)) ≡ f (does_of a p false)
   unfolding does_of actions
@@ -178,6 +186,8 @@ module _ (a : ℕ) (p : Bool) where
           (simp (ne_eqb a 2 b, ne_eqb a 6 h, ne_eqb a 7 c, ne_eqb a 8 d, ne_eqb a 9 e, ne_eqb a 11 f, ne_eqb a 14 g, ne_eqb a 17 i, ne_eqb a 19 j, ne_eqb a 21 k, ne_eqb a 27 l, ne_eqb a 28 m))
 
 pub ruleset next_laws = (rules, accepting, rejecting, as_requestor, as_acceptor, next_other)
+
+pub ruleset outside_laws = (rules, next_below, next_past)
 
 pub ruleset artim_laws = (artim_6, artim_arm, artim_other)
 

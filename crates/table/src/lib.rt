@@ -44,9 +44,8 @@ const CELLS: [u8; 247] = *b"\
     \x00\x16\x00\x00\x00\x00\x00\x00\x00\x00\x00\x00\x16\
     \x00\x15\x1c\x00\x1c\x1c\x1c\x1c\x1c\x1c\x1c\x1c\x1b";
 
-// The next states of AE-1 to AE-8, of DT-1 and DT-2, of AR-1 to AR-10 and of AA-1 to AA-8; of AE-6 when it rejects, of AR-8 for the acceptor. Place 0 is no action's.
-const NEXTS: [u8; 29] = *b"\
-    \x00\
+// The next states of AE-1 to AE-8, of DT-1 and DT-2, of AR-1 to AR-10 and of AA-1 to AA-8; of AE-6 when it rejects, of AR-8 for the acceptor.
+const NEXTS: [u8; 28] = *b"\
     \x04\x05\x06\x01\x02\x0d\x06\x0d\
     \x06\x06\
     \x07\x08\x01\x0d\x01\x07\x08\x0a\x0b\x0c\
@@ -96,7 +95,13 @@ pub fn next_state(action: u8, accepts: bool, requestor: bool) -> u8
         }
         return 10;
     }
-    NEXTS.get(usize::from(action)).copied().unwrap_or(0)
+    if action < 1 {
+        return 0;
+    }
+    if 28 < action {
+        return 0;
+    }
+    NEXTS[usize::from(action) - 1]
 }
 
 // Whether the ARTIM timer runs after an action, where it did or did not before.
@@ -161,18 +166,19 @@ pub fn sends(action: u8, accepts: bool) -> Sends
 }
 
 // Whether bytes bring the event: the rows of PDUs.
+#[tactic(auto, unfolding(crate::specs::Table::is_received, laws::specs::Lists::among))]
 pub fn is_received(event: u8) -> bool
     ensures { result ≡ is_received event }
 {
-    match event {
-        AC_RECEIVED => true,
-        RJ_RECEIVED => true,
-        RQ_RECEIVED => true,
-        DATA_RECEIVED => true,
-        RELEASE_RQ_RECEIVED => true,
-        RELEASE_RP_RECEIVED => true,
-        ABORT_RECEIVED => true,
-        INVALID_RECEIVED => true,
-        _ => false,
-    }
+    matches!(
+        event,
+        AC_RECEIVED
+            | RJ_RECEIVED
+            | RQ_RECEIVED
+            | DATA_RECEIVED
+            | RELEASE_RQ_RECEIVED
+            | RELEASE_RP_RECEIVED
+            | ABORT_RECEIVED
+            | INVALID_RECEIVED
+    )
 }

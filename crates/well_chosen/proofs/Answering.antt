@@ -44,8 +44,7 @@ use Rattle.round_trips.proofs.UserAgain.{part_bytes}
 use Rattle.round_trips.proofs.Again.{rq_name, rq_room, ac_allowed}
 use Rattle.round_trips.proofs.SentTrip.{sent_ac}
 use Rattle.choosing.specs.Choice.{Liked, site_in, chosen, chosen_for}
-use Rattle.choosing.specs.Call.{choose_refusal}
-use Rattle.choosing.specs.declared.Chosen.{Chosen}
+use Rattle.choosing.specs.Call.{Chosen, choose_refusal}
 use Rattle.well_chosen.specs.Answering.{records_in, Bytes, Chain, response_of, Answering}
 use Rattle.well_chosen.proofs.Meaning.{well_chosen, was_proposed_so}
 use Rattle.well_chosen.proofs.Written as written

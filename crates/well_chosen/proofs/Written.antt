@@ -17,8 +17,7 @@ use Rattle.sheets.specs.Contexts.{Context, Answered, context_id, answered_id, al
 use Rattle.sheets.specs.Sheet.{contexts_in, answers_in, proposal_ok, answers_ok, site_ok}
 use Rattle.sheets.proofs.Inverse.{proposal_contexts, answered_back, answered_answers, answers_length}
 use Rattle.choosing.specs.Choice.{site_in, chosen, chosen_for}
-use Rattle.choosing.specs.Call.{chosen_sheet, choose_refusal, chosen_of, chosen_bytes, Chose}
-use Rattle.choosing.specs.declared.Chosen.{Chosen}
+use Rattle.choosing.specs.Call.{Chosen, chosen_sheet, choose_refusal, chosen_of, chosen_bytes, Chose}
 use Rattle.well_chosen.specs.Meaning.{WellChosen}
 use Rattle.well_chosen.proofs.Meaning.{same_ids, all_good, each_chosen}
 

@@ -7,8 +7,7 @@ use Rattle.sheets.specs.Sheet.{site_ok}
 use Rattle.reading.specs.Associate.{proposed, answered, Read}
 use Rattle.reading.specs.Associate.{Associate}
 use Rattle.choosing.specs.Choice.{site_in, chosen_for}
-use Rattle.choosing.specs.Call.{Chose}
-use Rattle.choosing.specs.declared.Chosen.{Chosen}
+use Rattle.choosing.specs.Call.{Chosen, Chose}
 use Rattle.user_items.specs.Sent.{User}
 use Rattle.writing.specs.Fields.{AcFields}
 use Rattle.writing.specs.Cases.{added}

@@ -1,7 +1,6 @@
 -- The two exceptions, and the column elsewhere.
-use Rattle.std.proofs.Common.{rules}
 use Rattle.table.specs.Actions.{actions}
-use Rattle.table.proofs.Columns.{nexts, next_other, next_laws}
+use Rattle.table.proofs.Columns.{nexts, next_laws, outside_laws}
 use Rattle.table.proofs.next_state.Goals as goal
 
 pub returns-then-accepts : goal.returns-then-accepts
@@ -16,6 +15,14 @@ returns-then-requestor c = search next_laws
 pub returns-then-action-eq-AR_8 : goal.returns-then-action-eq-AR_8
 returns-then-action-eq-AR_8 c = search next_laws
 
+pub returns-then-action-lt1 : goal.returns-then-action-lt1
+unfolding nexts actions
+returns-then-action-lt1 c = search outside_laws
+
+pub returns-then-action-gt28 : goal.returns-then-action-gt28
+unfolding nexts actions
+returns-then-action-gt28 c = search outside_laws
+
 pub returns : goal.returns
 unfolding nexts actions
-returns c = next_other c.args.action c.args.accepts c.args.requestor c.unwrap_or.result (search rules) (search rules) (search rules)
+returns c = search next_laws
