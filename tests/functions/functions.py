@@ -22,6 +22,9 @@ BLOCK = re.compile(r"^impl(?:<[^>]*>)? (?:.* for )?(\w+)", re.M)
 OF_TRAIT = re.compile(r"^impl(?:<[^>]*>)? .* for (\w+).*\{\n((?:(?!\}).*\n)*)\}\n", re.M)
 DECLARED = re.compile(r"^ *pub ([\w-]+) :", re.M)
 
+# an edit that keeps the name of the function that stood in its place
+FORMER = {("id_set", "has"): "contains", ("id_set", "with"): "insert"}
+
 wrong = []
 
 
@@ -62,7 +65,7 @@ def edits(crate):
         if not folders or not folders <= {"src", "specs"}:
             wrong.append(f"{path}: changes {', '.join(sorted(folders)) or 'nothing'}; an edit is of src/ or specs/")
         kind = "specs" if "src" not in folders else "contract" if in_contract(crate, read(path)) else "code"
-        yield parts[0], parts[1], path, kind
+        yield FORMER.get((crate, parts[0]), parts[0]), parts[1], path, kind
 
 
 def theorems(crate):

@@ -1,20 +1,12 @@
 -- Any two permitted answers agree, for each public function. Assumes nothing.
 use Rattle.laws.proofs.Agree.{agree, Agrees, AgreesLent}
 use Rattle.id_set.proofs.SetLaws.{same_set}
-use Rattle.id_set.proofs.set.empty as empty
-use Rattle.id_set.proofs.set.has as has
-use Rattle.id_set.proofs.set.with as with
+use Rattle.id_set.proofs.set.IdSet.empty as empty
 use Rattle.id_set.proofs.set.IdSet.contains as contains
 use Rattle.id_set.proofs.set.IdSet.insert as insert
 
 pub empty_agrees : Agrees 0 empty.Kinds.ps empty.Kinds.r empty.Reads.Post
 empty_agrees κs args a b x y p q = same_set a b p.words q.words (λ n. agree (p.none n) (q.none n))
-
-pub has_agrees : Agrees 0 has.Kinds.ps has.Kinds.r has.Reads.Post
-has_agrees κs args a b x y p q = agree p q
-
-pub with_agrees : Agrees 0 with.Kinds.ps with.Kinds.r with.Reads.Post
-with_agrees κs args a b x y p q = same_set a b p.words q.words (λ n. agree (p.ids n) (q.ids n))
 
 pub contains_agrees : Agrees 1 contains.Kinds.ps contains.Kinds.r contains.Reads.Post
 contains_agrees κs args a b x y p q = agree p q

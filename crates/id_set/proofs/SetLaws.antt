@@ -6,18 +6,12 @@ use native.Mathlib.Omega.{arith}
 use mathlib.Core.Bool.{Bool, true, false, ◌||◌}
 use mathlib.Core.List.{List, [], ◌∷◌}
 use mathlib.Core.Path.{◌≡◌, refl, sym, ap, ◌∙◌, subst}
-use mir.Syntax.{w64}
-use mir.Val.{Val}
-use denote.Array.{each}
-use denote.Plain.{UInt}
-use denote.Shadow.{shadow}
 use lib.Arith.{digits_div, digits_mod}
 use lib.Bits.{bit_and, bit_or, and_mask, or_lt}
 use lib.Pow.{shl_exact}
 use lib.Dec.{eqb}
 use lib.ListN.{length, get_or, set, length-set}
 use lib.Seq.{get_or-set_same, get_or-set_other, ext_get_or}
-use borrow.Author.Rules.{rules, elem_Fits}
 use borrow.Author.Tests.{eq-eqb, ne_eqb, eqb-true, eqb-false}
 use Rattle.octets.specs.Octets.{odd}
 use Rattle.id_set.specs.IdSet.{is_in, Words, Empty, With}
@@ -41,16 +35,12 @@ empty_is = record {
   none = λ n. ap (λ (w : ℕ). odd (w / 2 ^ (n % 64))) (no_word (n / 64)) ∙ ap odd (zero-div (2 ^ (n % 64)));
 }
 
--- ---- `has`
+-- ---- `contains`
 pub has_is : (m : List ℕ) (id : ℕ) → eqb (bit_and (get_or m (id / 64) 0 / 2 ^ (id % 64)) 1) 1 ≡ is_in id m
 unfolding is_in
 has_is m id = ap (λ (n : ℕ). eqb n 1) (and_mask (get_or m (id / 64) 0 / 2 ^ (id % 64)) 1)
 
--- ---- `with`
--- what an array of four words is known to be
-words_of : (m : List ℕ) (us : List Val) → length m ≡ 4 → shadow (each ℕ (UInt w64).own_val m us) → Words m
-words_of m us l p = record { four = l; fit = λ k. (elem_Fits w64 w64 m us k p tt).fits }
-
+-- ---- `insert`
 bit_of : (id : ℕ) → 1 * 2 ^ (id % 64) % 18446744073709551616 ≡ 1 * 2 ^ (id % 64)
 bit_of id = shl_exact {a = 1} 1 (id % 64) 64 (omega arith) (omega arith)
 
@@ -107,10 +97,6 @@ module _ (m : List ℕ) (id : ℕ) where
     with_is : With m id more
     with_is = record { words = record { four = length-set m (id / 64) bit_on ∙ w.four; fit = fits }; ids = ids }
 
-pub with_made : (m : List ℕ) (us : List Val) (id : ℕ) → length m ≡ 4 → shadow (each ℕ (UInt w64).own_val m us) → id < 256
-    → With m id (set m (id / 64) (bit_or (get_or m (id / 64) 0) (1 * 2 ^ (id % 64) % 18446744073709551616)))
-with_made m us id l p s = with_is m id s (words_of m us l p)
-
 -- the same for a set by reference, seen as m, whose words are w
 pub inserted : {m w : List ℕ} (id : ℕ) → w ≡ m → id < 256 → Words w
     → With m id (set w (id / 64) (bit_or (get_or w (id / 64) 0) (1 * 2 ^ (id % 64) % 18446744073709551616)))
@@ -119,8 +105,6 @@ inserted {m} {w} id e s f = subst (λ (n : List ℕ). With n id (more w id)) e (
 pub words_kept : (w : List ℕ) (id : ℕ) → id < 256 → Words w
     → Words (set w (id / 64) (bit_or (get_or w (id / 64) 0) (1 * 2 ^ (id % 64) % 18446744073709551616)))
 words_kept w id s f = record { four = length-set w (id / 64) (bit_on w id) ∙ f.four; fit = fits w id s f }
-
-pub ruleset set_laws = (rules, has_is, with_made)
 
 -- ---- two sets with the same IDs are one
 same_word : (a b : List ℕ) → Words a → Words b → ((n : ℕ) → is_in n a ≡ is_in n b) → (k : ℕ) → get_or a k 0 ≡ get_or b k 0

@@ -15,6 +15,7 @@ use association::{Answer, Assoc, Brings, Told};
 use numbers::Kind;
 
 // The event that a whole PDU brings to an association.
+#[tactic(auto, unfolding(association::specs::Events::event_of))]
 fn event_of(a: Assoc, pdu: &[u8]) -> u8
     ensures { result ≡ event_of (standing a) pdu.now }
 {
