@@ -35,8 +35,8 @@ fn fields_of(f: Associate) -> [u64; 12] {
     ]
 }
 
-// Q PDU SHEETLEN ROLESLEN, A PDU SHEETLEN ROLESLEN
-pub(crate) fn associate<F>(rt: &impl Print, mut words: Words, read: F) -> Option<()>
+// PDU SHEETLEN ROLESLEN: lends both sheets to what reads, and prints the answer.
+fn associate<F>(rt: &impl Print, mut words: Words, read: F) -> Option<()>
 where
     F: FnOnce(&[u8], &mut [u8], &mut [u8]) -> Result<Associate, Refusal>,
     requires { F.IsAlwaysCallable read }
@@ -48,6 +48,20 @@ where
     let fields = read(pdu, sheet.lend(), roles.lend()).map(fields_of);
     let _ = println!(rt; "{} {} {}", Told(fields), sheet.digest(), roles.digest());
     Some(())
+}
+
+// Q PDU SHEETLEN ROLESLEN
+pub(crate) fn request(rt: &impl Print, words: Words) -> Option<()> {
+    associate(rt, words, |pdu, sheet, roles| {
+        reading::read_request(pdu, sheet, roles)
+    })
+}
+
+// A PDU SHEETLEN ROLESLEN
+pub(crate) fn accept(rt: &impl Print, words: Words) -> Option<()> {
+    associate(rt, words, |pdu, sheet, roles| {
+        reading::read_accept(pdu, sheet, roles)
+    })
 }
 
 // J PDU
