@@ -31,21 +31,7 @@ pub(crate) fn confirm(rt: &impl Print, mut words: Words, host: &mut Host) -> Opt
     let fields = request_in(&mut words)?;
     words.end()?;
     host.call(rt, record, |a, gather, out| {
-        let user = fields.user;
-        requests::confirm(
-            a,
-            fields.called,
-            fields.calling,
-            fields.application,
-            user.class_uid,
-            user.version_name,
-            user.invoked,
-            user.performed,
-            user.roles,
-            fields.sheet,
-            gather,
-            out,
-        )
+        requests::confirm(a, fields, gather, out)
     });
     Some(())
 }
@@ -56,20 +42,7 @@ pub(crate) fn accept(rt: &impl Print, mut words: Words, host: &mut Host) -> Opti
     let fields = accept_in(&mut words)?;
     words.end()?;
     host.call(rt, record, |a, gather, out| {
-        let user = fields.user;
-        requests::accept(
-            a,
-            fields.echoed,
-            fields.application,
-            user.class_uid,
-            user.version_name,
-            user.invoked,
-            user.performed,
-            user.roles,
-            fields.sheet,
-            gather,
-            out,
-        )
+        requests::accept(a, fields, gather, out)
     });
     Some(())
 }
