@@ -1,159 +1,144 @@
--- Laws of the answer to one context: the transfer names of its run, one of the site's records, and the loop over them.
+-- Laws of the answer to one context: the transfer names of its run, and the loop over the site's records.
 -- Assumes nothing.
-use Prim.Native.Nat.{ℕ, ◌+◌, ◌-◌, ◌%◌, ◌≤◌, ◌<◌}
+use Prim.Native.Nat.{ℕ, suc, ◌+◌, ◌≤◌, ◌<◌}
 use native.Mathlib.Omega.{arith}
-use mathlib.Core.Bool.{Bool, true, false, not, ◌||◌, cond}
+use native.Mathlib.Numerals.{add-one}
+use mathlib.Core.Bool.{Bool, true, false, cond}
 use mathlib.Core.List.{List, [], ◌∷◌, map}
-use mathlib.Core.Path.{◌≡◌, refl, sym, ◌∙◌}
-use lib.ListN.{length, take, drop, get_or, length-drop}
-use borrow.Author.Rules.{rules}
-use borrow.Author.Tests.{not-true, not-false}
+use mathlib.Core.Path.{◌≡◌, refl, sym, ap, ◌∙◌}
+use lib.ListN.{length, drop, get_or}
+use lib.Seq.{drop-cons}
+use Rattle.std.specs.List.{list_any}
+use Rattle.std.proofs.lemmas.List.{drop_all}
 use Rattle.laws.specs.Lists.{any, same_bytes}
-use Rattle.numbers.specs.Lengths.{RECORD}
 use Rattle.numbers.specs.Results.{ACCEPTED, ABSTRACT-NOT-SUPPORTED, TRANSFER-NOT-SUPPORTED}
 use Rattle.sheets.specs.Contexts.{Context}
-use Rattle.sheets.specs.Sheet.{transfer_of, records_of}
-use Rattle.sheets.specs.Record.{record_of, record_at, abstract_at, transfer_at}
-use Rattle.sheets.proofs.RecordLaws.{abstract_here, transfer_here, transfer_short, record_whole}
-use Rattle.sheets.proofs.RunLaws.{record_here, records_none}
-use Rattle.choosing.specs.Choice.{Liked, liked_of, site_in, same_abstract, was_proposed, matches, result_for, transfer_for, chosen}
-use Rattle.choosing.specs.Private.Runs.{run_context, result_from, answer_bytes}
+use Rattle.sheets.specs.Sheet.{record_id, abstract_of, transfer_of}
+use Rattle.sheets.specs.Record.{record_of, abstract_at, transfer_at}
+use Rattle.sheets.specs.Private.OneRecord.{run_context}
+use Rattle.sheets.proofs.RecordLaws.{abstract_first, transfer_first, transfer_most, record_whole}
+use Rattle.choosing.specs.Choice.{Liked, liked_of, same_abstract, was_proposed, matches, result_for, transfer_for, chosen}
+use Rattle.choosing.specs.Private.Runs.{result_from, answer_bytes}
 
--- ---- `was_proposed`: what the transfer names from `at` on say
-unfoldable pub proposed_from : List ℕ → List ℕ → ℕ → Bool
-proposed_from run x at = any (same_bytes x) (map transfer_of (records_of (drop at run)))
+-- ---- `was_proposed`
+pub any_transfer : (x : List ℕ) (run : List (List ℕ)) → list_any (λ r. same_bytes x (transfer_at r 0)) run ≡ any (same_bytes x) (map (λ r. transfer_at r 0) run)
+any_transfer x [] = refl
+any_transfer x (r ∷ run) = rw (any_transfer x run)
 
-pub proposed_start : (run x : List ℕ) → was_proposed (run_context run) x ≡ proposed_from run x 0
-unfolding was_proposed run_context proposed_from
-proposed_start run x = refl
+-- ---- over the site's records: those from ws on, with the result of those before, say what all of them say
+pub record Looking (c : Context) (all : List Liked) (result : ℕ) (ws : List Liked) : Type 0 where
+  pub same_result : result_for c all ≡ result_from result c ws
+  pub same_transfer : transfer_for c all ≡ transfer_for c ws
 
-module _ (run x : List ℕ) (at : ℕ) (all : Bool) (v : all ≡ proposed_from run x at) (w : length run % RECORD ≡ 0) (z : at % RECORD ≡ 0) where
-  proposed_here : at < length run → proposed_from run x at ≡ (same_bytes x (transfer_at run at) || proposed_from run x (at + RECORD))
-  unfolding proposed_from
-  proposed_here h = rw (record_here run at (omega arith), transfer_here run at (omega arith))
-
-  module _ (y : List ℕ) (b : Bool) (h : at < length run) (e : y ≡ transfer_at run at) (q : b ≡ same_bytes x y) where
-    pub proposed_yes : b ≡ true → true ≡ all
-    proposed_yes t = sym (v ∙ (proposed_here h ∙ rw (← e, ← q, t)))
-
-    pub proposed_next : b ≡ false → all ≡ proposed_from run x (at + RECORD)
-    proposed_next t = v ∙ (proposed_here h ∙ rw (← e, ← q, t))
-
-  pub proposed_done : length run ≤ at → false ≡ all
-  unfolding proposed_from
-  proposed_done h = sym (v ∙ rw (records_none (drop at run) (omega (arith, length-drop at run))))
-
-pub ruleset proposed_laws = (rules, proposed_start, proposed_yes, proposed_next, proposed_done)
-
--- ---- `result_at`
-module _ (run site : List ℕ) (at before : ℕ) (h : at + RECORD ≤ length site) (a d : List ℕ) (b : Bool) (e : a ≡ abstract_at site at) (f : d ≡ abstract_at run 0) (q : b ≡ same_bytes a d) where
-  same_is : same_abstract (run_context run) (liked_of (record_at site at)) ≡ b
-  unfolding same_abstract run_context liked_of
-  same_is = sym (q ∙ rw (e, f, abstract_here site at h))
-
-  pub result_other : not b ≡ true → before ≡ result_from before (run_context run) (liked_of (record_at site at) ∷ [])
-  unfolding result_from matches
-  result_other t = rw (same_is, not-true b t)
-
-  module _ (x : List ℕ) (g : Bool) (t : not b ≡ false) (y : x ≡ transfer_at site at) (p : g ≡ was_proposed (run_context run) x) where
-    proposed_is : was_proposed (run_context run) (liked_of (record_at site at)).transfer ≡ g
-    unfolding liked_of
-    proposed_is = sym (p ∙ rw (y, transfer_here site at h))
-
-    pub result_match : g ≡ true → ACCEPTED ≡ result_from before (run_context run) (liked_of (record_at site at) ∷ [])
-    unfolding result_from matches
-    result_match u = rw (same_is, not-false b t, proposed_is, u)
-
-    pub result_none : g ≡ false → TRANSFER-NOT-SUPPORTED ≡ result_from before (run_context run) (liked_of (record_at site at) ∷ [])
-    unfolding result_from matches
-    result_none u = rw (same_is, not-false b t, proposed_is, u)
-
-pub ruleset result_laws = (rules, result_other, result_match, result_none)
-
--- ---- one record more
-module _ (before : ℕ) (c : Context) (w : Liked) (ws : List Liked) (r : ℕ) (e : r ≡ result_from before c (w ∷ [])) where
-  -- a result that is not 0: the record does not match, and the rest decides
-  unmatched : (r ≡ ACCEPTED → ⊥) → matches c w ≡ false
-  unfolding result_from
-  unmatched n = go (matches c w) refl
-    where
-      go : (m : Bool) → matches c w ≡ m → m ≡ false
-      go true q = absurd (n (e ∙ rw q))
-      go false q = refl
-
-  result_rest : (r ≡ ACCEPTED → ⊥) → result_from before c (w ∷ ws) ≡ result_from r c ws
-  unfolding result_from
-  result_rest n = go (any (matches c) ws) (same_abstract c w) (any (same_abstract c) ws) (e ∙ rw (unmatched n))
-    where
-      go : (m s t : Bool) → r ≡ cond (s || false) TRANSFER-NOT-SUPPORTED before
-          → cond (matches c w || m) ACCEPTED (cond (s || t) TRANSFER-NOT-SUPPORTED before) ≡ cond m ACCEPTED (cond t TRANSFER-NOT-SUPPORTED r)
-      go true s t q = rw (unmatched n)
-      go false true true q = rw (unmatched n)
-      go false true false q = rw (unmatched n) (sym q)
-      go false false true q = rw (unmatched n)
-      go false false false q = rw (unmatched n) (sym q)
-
-  -- 0 comes from a record that matches alone
-  matched : (before ≡ ACCEPTED → ⊥) → r ≡ ACCEPTED → matches c w ≡ true
-  unfolding result_from
-  matched n z = go (matches c w) (same_abstract c w) (sym e ∙ z)
-    where
-      go : (m s : Bool) → cond (m || false) ACCEPTED (cond (s || false) TRANSFER-NOT-SUPPORTED before) ≡ ACCEPTED → m ≡ true
-      go true s q = refl
-      go false true q = absurd (omega arith)
-      go false false q = absurd (n q)
-
--- ---- `answer_to`: the records from `at` on, with the result of those before, say what all of them say
-site_here : (s : List ℕ) (at : ℕ) → at + RECORD ≤ length s → site_in (drop at s) ≡ liked_of (record_at s at) ∷ site_in (drop (at + RECORD) s)
-unfolding site_in
-site_here s at h = rw (record_here s at h)
-
-site_none : (s : List ℕ) (at : ℕ) → length s ≤ at → site_in (drop at s) ≡ []
-unfolding site_in
-site_none s at h = rw (records_none (drop at s) (omega (arith, length-drop at s)))
-
-pub record Looking (run site : List ℕ) (result at : ℕ) : Type 0 where
-  pub place : at % RECORD ≡ 0
-  pub to : at ≤ length site
-  pub none_yet : result ≡ ACCEPTED → ⊥
-  pub same_result : result_for (run_context run) (site_in site) ≡ result_from result (run_context run) (site_in (drop at site))
-  pub same_transfer : transfer_for (run_context run) (site_in site) ≡ transfer_for (run_context run) (site_in (drop at site))
-
-pub look_start : (run site : List ℕ) → Looking run site ABSTRACT-NOT-SUPPORTED 0
+pub look_start : (c : Context) (all : List Liked) → Looking c all ABSTRACT-NOT-SUPPORTED all
 unfolding result_for result_from
-look_start run site = record { place = refl; to = omega arith; none_yet = λ z. omega arith; same_result = refl; same_transfer = refl }
+look_start c all = record { same_result = refl; same_transfer = refl }
 
-module _ (run site : List ℕ) (before at : ℕ) (v : Looking run site before at) (w : length site % RECORD ≡ 0) where
-  pub look_here : at < length site → at + RECORD ≤ length site
-  look_here h = let z = v.place in omega arith
+module _ (c : Context) (all ws : List Liked) (result : ℕ) (w : Liked) (v : Looking c all result (w ∷ ws)) where
+  other : same_abstract c w ≡ false → Looking c all result ws
+  unfolding result_from matches transfer_for
+  other e = record { same_result = v.same_result ∙ rw e; same_transfer = v.same_transfer ∙ rw e }
 
-  module _ (r : ℕ) (h : at < length site) (e : r ≡ result_from before (run_context run) (liked_of (record_at site at) ∷ [])) where
-    pub look_next : (r ≡ ACCEPTED → ⊥) → Looking run site r (at + RECORD)
-    unfolding transfer_for
-    look_next n =
-        let z = v.place in
-        let m = unmatched before (run_context run) (liked_of (record_at site at)) (site_in (drop (at + RECORD) site)) r e n in
-        record {
-          place = omega arith;
-          to = look_here h;
-          none_yet = n;
-          same_result = v.same_result ∙ (rw (site_here site at (look_here h)) (result_rest before (run_context run) (liked_of (record_at site at)) (site_in (drop (at + RECORD) site)) r e n));
-          same_transfer = v.same_transfer ∙ rw (site_here site at (look_here h), m);
-        }
+  close : same_abstract c w ≡ true → was_proposed c w.transfer ≡ false → Looking c all TRANSFER-NOT-SUPPORTED ws
+  unfolding result_from matches transfer_for
+  close e p = record { same_result = v.same_result ∙ rw (e, p) (go (any (matches c) ws) (any (same_abstract c) ws)); same_transfer = v.same_transfer ∙ rw (e, p) }
+    where
+      go : (m s : Bool) → cond m ACCEPTED TRANSFER-NOT-SUPPORTED ≡ cond m ACCEPTED (cond s TRANSFER-NOT-SUPPORTED TRANSFER-NOT-SUPPORTED)
+      go true s = refl
+      go false true = refl
+      go false false = refl
 
-    pub look_found : (x o : List ℕ) → r ≡ ACCEPTED → x ≡ transfer_at site at → o ≡ record_of (get_or run 0 0) ACCEPTED (take (0 - 0) (drop 0 run)) x → o ≡ answer_bytes (chosen (site_in site) (run_context run))
-    unfolding answer_bytes chosen result_from transfer_for run_context liked_of
-    look_found x o z y p =
-        let m = matched before (run_context run) (liked_of (record_at site at)) (site_in (drop (at + RECORD) site)) r e v.none_yet z in
-        let i : result_for (run_context run) (site_in site) ≡ ACCEPTED = v.same_result ∙ rw (site_here site at (look_here h), m) in
-        let t : transfer_for (run_context run) (site_in site) ≡ transfer_at site at = v.same_transfer ∙ rw (site_here site at (look_here h), m, transfer_here site at (look_here h)) in
-        p ∙ (rw (y, record_whole (get_or run 0 0) ACCEPTED [] (transfer_at site at) (omega arith) (transfer_short site at), i, t))
+  met_result : same_abstract c w ≡ true → was_proposed c w.transfer ≡ true → result_for c all ≡ ACCEPTED
+  unfolding result_from matches
+  met_result e p = v.same_result ∙ rw (e, p)
 
-  pub look_none : (o : List ℕ) → length site ≤ at → o ≡ record_of (get_or run 0 0) before (take (0 - 0) (drop 0 run)) (take (0 - 0) (drop 0 run)) → o ≡ answer_bytes (chosen (site_in site) (run_context run))
-  unfolding answer_bytes chosen result_from transfer_for run_context
-  look_none o h p =
-      let i : result_for (run_context run) (site_in site) ≡ before = v.same_result ∙ rw (site_none site at h) in
-      let t : transfer_for (run_context run) (site_in site) ≡ [] = v.same_transfer ∙ rw (site_none site at h) in
-      p ∙ (rw (record_whole (get_or run 0 0) before [] [] (omega arith) (omega arith), i, t))
+  met_transfer : same_abstract c w ≡ true → was_proposed c w.transfer ≡ true → transfer_for c all ≡ w.transfer
+  unfolding transfer_for matches
+  met_transfer e p = v.same_transfer ∙ rw (e, p)
 
-pub ruleset look_laws = (rules, look_start, look_here, look_next, look_found, look_none)
+end_result : (c : Context) (all : List Liked) (result : ℕ) → Looking c all result [] → result_for c all ≡ result
+unfolding result_from
+end_result c all result v = v.same_result
+
+end_transfer : (c : Context) (all : List Liked) (result : ℕ) → Looking c all result [] → transfer_for c all ≡ []
+unfolding transfer_for
+end_transfer c all result v = v.same_transfer
+
+-- ---- `answer_to`: records of 132 bytes
+abbrev pub Whole : List (List ℕ) → Type 0
+Whole rs = (k : ℕ) → k < length rs → length (get_or rs k []) ≡ 132
+
+transfers_are : (run : List (List ℕ)) → Whole run → map (λ r. transfer_at r 0) run ≡ map transfer_of run
+transfers_are [] l = refl
+transfers_are (r ∷ run) l =
+    let e : transfer_at r 0 ≡ transfer_of r = transfer_first r (l 0 (omega arith)) in
+    let i = transfers_are run (λ k h. l (suc k) (omega arith)) in
+    λ j. e j ∷ i j
+
+module _ (run : List (List ℕ)) (l : Whole run) (some : 0 < length run) where
+  context_is : (run_context run).transfers ≡ map (λ r. transfer_at r 0) run
+  unfolding run_context
+  context_is = go run l some
+    where
+      go : (rs : List (List ℕ)) → Whole rs → 0 < length rs → (run_context rs).transfers ≡ map (λ r. transfer_at r 0) rs
+      go [] l h = absurd (omega arith)
+      go (r ∷ rs) l h = sym (transfers_are (r ∷ rs) l)
+
+  abstract_is : abstract_at (get_or run 0 []) 0 ≡ (run_context run).abstr
+  unfolding run_context
+  abstract_is = abstract_first (get_or run 0 []) (l 0 some) ∙ go run some
+    where
+      go : (rs : List (List ℕ)) → 0 < length rs → abstract_of (get_or rs 0 []) ≡ (run_context rs).abstr
+      go [] h = absurd (omega arith)
+      go (r ∷ rs) h = refl
+
+  id_is : get_or (get_or run 0 []) 0 0 ≡ (run_context run).id
+  unfolding run_context
+  id_is = go run some
+    where
+      go : (rs : List (List ℕ)) → 0 < length rs → record_id (get_or rs 0 []) ≡ (run_context rs).id
+      go [] h = absurd (omega arith)
+      go (r ∷ rs) h = refl
+
+  module _ (site : List (List ℕ)) (m : Whole site) (result i : ℕ) (v : Looking (run_context run) (map liked_of site) result (map liked_of (drop i site))) where
+    module _ (h : i < length site) (a d : List ℕ) (b : Bool) (e : a ≡ abstract_at (get_or site i []) 0) (f : d ≡ abstract_at (get_or run 0 []) 0) (q : b ≡ same_bytes a d) where
+      here : map liked_of (drop i site) ≡ liked_of (get_or site i []) ∷ map liked_of (drop (i + 1) site)
+      here = let e : drop i site ≡ get_or site i [] ∷ drop (i + 1) site = rw add-one (drop-cons site i [] h) in ap (map liked_of) e
+
+      at_it : Looking (run_context run) (map liked_of site) result (liked_of (get_or site i []) ∷ map liked_of (drop (i + 1) site))
+      at_it = rw here at v
+
+      same_is : same_abstract (run_context run) (liked_of (get_or site i [])) ≡ b
+      unfolding same_abstract liked_of
+      same_is = sym (q ∙ rw (e, f, abstract_first (get_or site i []) (m i h), abstract_is))
+
+      pub next_other : b ≡ false → Looking (run_context run) (map liked_of site) result (map liked_of (drop (i + 1) site))
+      next_other t = other (run_context run) (map liked_of site) (map liked_of (drop (i + 1) site)) result (liked_of (get_or site i [])) at_it (same_is ∙ t)
+
+      module _ (t : b ≡ true) (x : List ℕ) (g : Bool) (y : x ≡ transfer_at (get_or site i []) 0) (p : g ≡ any (same_bytes x) (map (λ r. transfer_at r 0) run)) where
+        name_is : (liked_of (get_or site i [])).transfer ≡ x
+        unfolding liked_of
+        name_is = sym (y ∙ transfer_first (get_or site i []) (m i h))
+
+        proposed_is : was_proposed (run_context run) (liked_of (get_or site i [])).transfer ≡ g
+        unfolding was_proposed
+        proposed_is = rw (name_is, context_is) (sym p)
+
+        pub next_close : g ≡ false → Looking (run_context run) (map liked_of site) TRANSFER-NOT-SUPPORTED (map liked_of (drop (i + 1) site))
+        next_close u = close (run_context run) (map liked_of site) (map liked_of (drop (i + 1) site)) result (liked_of (get_or site i [])) at_it (same_is ∙ t) (proposed_is ∙ u)
+
+        pub found : (z o : List ℕ) → g ≡ true → z ≡ transfer_at (get_or site i []) 0 → o ≡ record_of (get_or (get_or run 0 []) 0 0) ACCEPTED [] z → o ≡ answer_bytes (chosen (map liked_of site) (run_context run))
+        unfolding answer_bytes chosen
+        found z o u w r =
+            let n = met_result (run_context run) (map liked_of site) (map liked_of (drop (i + 1) site)) result (liked_of (get_or site i [])) at_it (same_is ∙ t) (proposed_is ∙ u) in
+            let s = met_transfer (run_context run) (map liked_of site) (map liked_of (drop (i + 1) site)) result (liked_of (get_or site i [])) at_it (same_is ∙ t) (proposed_is ∙ u) in
+            let j : z ≡ transfer_of (get_or site i []) = w ∙ transfer_first (get_or site i []) (m i h) in
+            let k : transfer_for (run_context run) (map liked_of site) ≡ z = s ∙ (name_is ∙ (y ∙ sym w)) in
+            let fits : length z ≤ 64 = rw j (transfer_most (get_or site i [])) in
+            r ∙ (record_whole (get_or (get_or run 0 []) 0 0) ACCEPTED [] z (omega arith) fits ∙ rw (n, k, id_is))
+
+    pub none_found : (o : List ℕ) → length site ≤ i → o ≡ record_of (get_or (get_or run 0 []) 0 0) result [] [] → o ≡ answer_bytes (chosen (map liked_of site) (run_context run))
+    unfolding answer_bytes chosen
+    none_found o h r =
+        let at_end : Looking (run_context run) (map liked_of site) result [] = rw (drop_all i site h) at v in
+        r ∙ (record_whole (get_or (get_or run 0 []) 0 0) result [] [] (omega arith) (omega arith) ∙ rw (end_result (run_context run) (map liked_of site) result at_end, end_transfer (run_context run) (map liked_of site) result at_end, id_is))

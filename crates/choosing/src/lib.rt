@@ -2,32 +2,34 @@
 #![tactic(auto)]
 
 mod answer;
-mod runs;
 
-ghost use Rattle.std.specs.Prelude.{◌≡◌, ◌*◌, ◌%◌, ◌≤◌, length};
-ghost use Rattle.numbers.specs.Lengths.{RECORD};
-ghost use Rattle.octets.specs.Private.Put.{Put};
-ghost use Rattle.sheets.specs.Sheet.{contexts_in};
-ghost use Rattle.choosing.specs.Call.{chosen_sheet, chosen_as, Chose};
+ghost use Rattle.std.specs.Prelude.{◌≡◌, ◌*◌, ◌≤◌, length};
+ghost use Rattle.octets.specs.Put.{front};
+ghost use Rattle.sheets.specs.Sheet.{sheet_runs};
+ghost use Rattle.choosing.specs.Call.{chosen_as, Chose};
+ghost use Rattle.choosing.specs.Private.Runs.{answers_for};
 
 use crate::answer::answer_to;
-use crate::runs::{count, run_end};
-use numbers::Refusal;
+use numbers::{RECORD, Refusal};
+
+// How many contexts there are.
+fn count(proposal: &[[u8; RECORD]]) -> usize
+    ensures { result ≡ length (sheet_runs proposal.now) }
+{
+    proposal
+        .chunk_by(|r, next| sheets::same_run(r, next))
+        .count()
+}
 
 // Writes the answers, a record for each context.
-fn put_answers(answer: &mut [u8], proposal: &[u8], site: &[u8]) -> usize
-    requires { (length proposal.now % RECORD ≡ 0) × (length site.now % RECORD ≡ 0) × (RECORD * length (contexts_in proposal.now) ≤ length answer.old) }
-    ensures { Put answer.old 0 (chosen_sheet proposal.now site.now) result answer.new }
+fn put_answers(answer: &mut [u8], proposal: &[[u8; RECORD]], site: &[[u8; RECORD]])
+    requires { 132 * length (sheet_runs proposal.now) ≤ length answer.old }
+    ensures { answer.new ≡ front answer.old (answers_for proposal.now site.now) }
 {
     let mut n = 0;
-    let mut at = 0;
-    while at < proposal.len() {
-        let e = run_end(proposal, at);
-        let r = answer_to(&proposal[at..e], site);
-        n = octets::put(answer, n, &r);
-        at = e;
+    for run in proposal.chunk_by(|r, next| sheets::same_run(r, next)) {
+        n = octets::put(answer, n, &answer_to(run, site));
     }
-    n
 }
 
 // Chooses for each context of the proposal: the first record of the site's sheet that matches it, or none. Answers how many records the answer sheet starts with.
@@ -40,10 +42,11 @@ pub fn choose(proposal: &[u8], site: &[u8], answer: &mut [u8]) -> Result<usize, 
     if !sheets::site_ok(site) {
         return Err(Refusal::BadContents);
     }
-    let n = count(proposal);
-    if answer.len() / numbers::RECORD < n {
+    let proposed = proposal.as_chunks().0;
+    let n = count(proposed);
+    if answer.len() / RECORD < n {
         return Err(Refusal::ShortOutput);
     }
-    put_answers(answer, proposal, site);
+    put_answers(answer, proposed, site.as_chunks().0);
     Ok(n)
 }

@@ -6,7 +6,7 @@ use crate::context::context_good;
 use crate::ids::ids_differ;
 use crate::order::{Holder, Order, in_order};
 
-// The items of an RQ or an AC: one 10H, one or more contexts of this type, and one 50H.
+// The items of an RQ or an AC: one 10H, one or more contexts of this type, and one 50H. Types stay numbers: the public items_ok takes any.
 #[derive(Drop)]
 struct Top {
     context: u8,

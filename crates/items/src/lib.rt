@@ -104,6 +104,7 @@ pub fn count_of(t: u8, s: &[u8]) -> usize
 pub fn first_of(t: u8, s: &[u8]) -> &[u8]
     ensures { PartOf s.entry (place t (walk s.now)) (first (bodies t (walk s.now))) result }
 {
+    // No `for`: where it ends, what is left is handed out.
     let mut items = Items::of(s);
     while let Some(Ok(item)) = items.next() {
         if item.kind == t {

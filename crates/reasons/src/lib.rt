@@ -1,4 +1,4 @@
-// What an RJ and an ABORT may say.
+// What an RJ and an ABORT may say: a match on source, then on reason with ranges.
 #![tactic(auto)]
 
 ghost use Rattle.std.specs.Prelude.{◌≡◌};
@@ -8,10 +8,12 @@ ghost use Rattle.reasons.specs.Values.{reject_ok, abort_ok};
 pub fn reject_ok(res: u8, source: u8, reason: u8) -> bool
     ensures { result ≡ reject_ok res source reason }
 {
-    matches!(
-        (res, source, reason),
-        (1..=2, 1, 1..=3 | 7) | (1..=2, 2..=3, 1..=2)
-    )
+    matches!(res, 1..=2)
+        && match source {
+            1 => matches!(reason, 1..=3 | 7),
+            2..=3 => matches!(reason, 1..=2),
+            _ => false,
+        }
 }
 
 // On receipt: the reason of source 0 is not tested.
@@ -19,5 +21,9 @@ pub fn reject_ok(res: u8, source: u8, reason: u8) -> bool
 pub fn abort_ok(source: u8, reason: u8) -> bool
     ensures { result ≡ abort_ok source reason }
 {
-    matches!((source, reason), (0, _) | (2, 0..=2 | 4..=6))
+    match source {
+        0 => true,
+        2 => matches!(reason, 0..=2 | 4..=6),
+        _ => false,
+    }
 }

@@ -3,7 +3,7 @@
 -- Assumes nothing.
 use Prim.Native.Nat.{ℕ, zero, suc, ◌<◌}
 use mathlib.Core.Path.{◌≡◌, refl, sym, ◌∙◌, ap}
-use mathlib.Core.Bool.{Bool, true, false, cond, not, ◌||◌}
+use mathlib.Core.Bool.{Bool, true, false, cond, ◌||◌}
 use mathlib.Core.List.{List, [], ◌∷◌, map}
 use native.Mathlib.Omega.{arith}
 use native.Mathlib.Decide.{dec_lt}
@@ -118,17 +118,6 @@ module _ (a : ℕ) (p : Bool) where
   unfolding does_of actions
   elsewhere f h = get_d_map f (actions false false) a (does_of 0 false false) ∙ sym (ap f (other_6 a p h))
 
-  pub artim_6 : a ≡ AE-6 → (b : Bool) → not p ≡ artim_of a p b
-  unfolding artim_of does_of actions
-  artim_6 e b = rw e (by p)
-    where
-      by : (p : Bool) → not p ≡ runs_after (does_of AE-6 p false).artim b
-      by true = refl
-      by false = refl
-
-  pub artim_arm : (k : ℕ) (z b : Bool) → a ≡ k → z ≡ artim_of k p b → z ≡ artim_of a p b
-  artim_arm k z b e t = t ∙ ap (λ (i : ℕ). artim_of i p b) (sym e)
-
   pub artim_other : (z : Bool) → (a ≡ AE-6 → ⊥) → (a ≡ 5 → ⊥) → (a ≡ 8 → ⊥) → (a ≡ 14 → ⊥) → (a ≡ 15 → ⊥) → (a ≡ 21 → ⊥) → (a ≡ 22 → ⊥) → (a ≡ 25 → ⊥) → (a ≡ 28 → ⊥)
       → z ≡ artim_of a p z
   unfolding artim_of timers does_of actions among
@@ -143,17 +132,6 @@ module _ (a : ℕ) (p : Bool) where
       by stops n = absurd (omega (arith, n))
       by stays n = refl
 
-  pub shows_6 : a ≡ AE-6 → p ≡ shows_of a p
-  unfolding shows_of does_of actions
-  shows_6 e = rw e (by p)
-    where
-      by : (p : Bool) → p ≡ (does_of AE-6 p false).shows
-      by true = refl
-      by false = refl
-
-  pub shows_arm : (k : ℕ) → a ≡ k → true ≡ shows_of k p → true ≡ shows_of a p
-  shows_arm k e t = t ∙ ap (λ (i : ℕ). shows_of i p) (sym e)
-
   pub shows_other : (a ≡ 3 → ⊥) → (a ≡ 4 → ⊥) → (a ≡ AE-6 → ⊥) → (a ≡ 10 → ⊥) → (a ≡ 16 → ⊥) → (a ≡ 23 → ⊥) → false ≡ shows_of a p
   unfolding shows_of marks does_of actions among
   shows_other b c h d e f = by (does_of a p false).shows (none ∙ elsewhere (λ (d : Does). mark d.shows) h)
@@ -164,17 +142,6 @@ module _ (a : ℕ) (p : Bool) where
       by : (s : Bool) → 0 ≡ mark s → false ≡ s
       by true h = absurd (omega (arith, h))
       by false h = refl
-
-  pub sends_accepting : a ≡ AE-6 → p ≡ true → 0 ≡ sends_number (does_of a p false).sends
-  unfolding does_of actions
-  sends_accepting e t = rw (e, t)
-
-  pub sends_rejecting : a ≡ AE-6 → p ≡ false → 2 ≡ sends_number (does_of a p false).sends
-  unfolding does_of actions
-  sends_rejecting e t = rw (e, t)
-
-  pub sends_arm : (k r : ℕ) → a ≡ k → r ≡ sends_number (does_of k p false).sends → r ≡ sends_number (does_of a p false).sends
-  sends_arm k r e t = t ∙ ap (λ (i : ℕ). sends_number (does_of i p false).sends) (sym e)
 
   pub sends_other : (a ≡ AE-6 → ⊥) → (a ≡ 2 → ⊥) → (a ≡ 7 → ⊥) → (a ≡ 8 → ⊥) → (a ≡ 9 → ⊥) → (a ≡ 11 → ⊥) → (a ≡ 14 → ⊥) → (a ≡ 17 → ⊥)
       → (a ≡ 19 → ⊥) → (a ≡ 21 → ⊥) → (a ≡ 27 → ⊥) → (a ≡ 28 → ⊥) → 0 ≡ sends_number (does_of a p false).sends
@@ -188,9 +155,3 @@ module _ (a : ℕ) (p : Bool) where
 pub ruleset next_laws = (rules, accepting, rejecting, as_requestor, as_acceptor, next_other)
 
 pub ruleset outside_laws = (rules, next_below, next_past)
-
-pub ruleset artim_laws = (artim_6, artim_arm, artim_other)
-
-pub ruleset shows_laws = (shows_6, shows_arm, shows_other)
-
-pub ruleset sends_laws = (sends_accepting, sends_rejecting, sends_arm, sends_other)

@@ -105,59 +105,41 @@ pub fn next_state(action: u8, accepts: bool, requestor: bool) -> u8
 }
 
 // Whether the ARTIM timer runs after an action, where it did or did not before.
+#[tactic(auto, unfolding(crate::specs::Actions::artim_of, crate::specs::Actions::does_of, crate::specs::Actions::actions))]
 pub fn artim_after(action: u8, accepts: bool, before: bool) -> bool
     ensures { result ≡ artim_of action accepts before }
 {
-    if action == AE_6 {
-        return !accepts;
-    }
     match action {
-        AE_5 => true,
-        AE_8 => true,
-        AR_4 => true,
-        AR_5 => false,
-        AA_1 => true,
-        AA_2 => false,
-        AA_5 => false,
-        AA_8 => true,
+        AE_6 => !accepts,
+        AE_5 | AE_8 | AR_4 | AA_1 | AA_8 => true,
+        AR_5 | AA_2 | AA_5 => false,
         _ => before,
     }
 }
 
 // Whether an action shows the PDU received.
+#[tactic(auto, unfolding(crate::specs::Actions::shows_of, crate::specs::Actions::does_of, crate::specs::Actions::actions))]
 pub fn shows(action: u8, accepts: bool) -> bool
     ensures { result ≡ shows_of action accepts }
 {
     match action {
-        AE_3 => true,
-        AE_4 => true,
         AE_6 => accepts,
-        DT_2 => true,
-        AR_6 => true,
-        AA_3 => true,
+        AE_3 | AE_4 | DT_2 | AR_6 | AA_3 => true,
         _ => false,
     }
 }
 
 // What an action sends: a line for each that sends, as Tables 9-6 to 9-9 have one.
+#[tactic(auto, unfolding(crate::specs::Actions::does_of, crate::specs::Actions::actions))]
 pub fn sends(action: u8, accepts: bool) -> Sends
     ensures { sent_number result ≡ sends_number (does_of action accepts false).sends }
 {
-    if action == AE_6 {
-        if accepts {
-            return Sends::Nothing;
-        }
-        return Sends::RejectVersion;
-    }
     match action {
-        AE_2 => Sends::Contents,
-        AE_7 => Sends::Contents,
-        AE_8 => Sends::Contents,
-        DT_1 => Sends::Contents,
+        AE_6 if accepts => Sends::Nothing,
+        AE_6 => Sends::RejectVersion,
+        AE_2 | AE_7 | AE_8 | DT_1 | AR_7 => Sends::Contents,
         AR_1 => Sends::ReleaseRq,
-        AR_4 => Sends::ReleaseRp,
-        AR_7 => Sends::Contents,
-        AR_9 => Sends::ReleaseRp,
+        AR_4 | AR_9 => Sends::ReleaseRp,
         AA_1 => Sends::AbortUser,
         AA_7 => Sends::AbortProvider,
         AA_8 => Sends::AbortProvider,

@@ -3,14 +3,15 @@
 use Prim.Native.Nat.{ℕ, ◌+◌, ◌-◌, ◌≤◌, ◌<◌, min}
 use native.Mathlib.Omega.{arith}
 use mathlib.Core.Bool.{Bool, true, false, ◌&&◌}
-use mathlib.Core.List.{List, [], ◌∷◌}
-use mathlib.Core.Path.{◌≡◌, refl, sym, ap, ◌∙◌}
+use mathlib.Core.List.{List, []}
+use mathlib.Core.Path.{◌≡◌, refl, sym, ◌∙◌}
 use lib.ListN.{length, take, drop, get_or, length-drop, drop_of_length-le}
 use lib.Seq.{take_all, take-nil}
 use lib.Dec.{leb, eqb}
 use borrow.Author.Tests.{le-leb, lt-leb, leb-true, leb-false}
 use Rattle.std.specs.List.{list_all}
 use Rattle.laws.specs.Lists.{all}
+use Rattle.laws.proofs.Library.{all_list}
 use Rattle.octets.specs.Octets.{be16}
 use Rattle.names.specs.Name.{name_ok}
 use Rattle.titles.specs.Title.{title_byte}
@@ -44,11 +45,6 @@ module _ (b : List ℕ) where
       go false q = let h = leb-false (length b) (2 + be16 b 0) q in let z : e - 2 ≡ be16 b 0 = omega arith in rw z
 
 -- ---- `version_ok`
--- std's word for it
-all_list : (p : ℕ → Bool) (xs : List ℕ) → list_all p xs ≡ all p xs
-all_list p [] = refl
-all_list p (x ∷ xs) = ap (λ (r : Bool). p x && r) (all_list p xs)
-
 pub version_by : (b : List ℕ) (r : Bool) → 1 ≤ length b → length b ≤ 16 → r ≡ list_all title_byte b → r ≡ version_ok b
 unfolding version_ok
 version_by b r l m e = rw (le-leb 1 (length b) l, le-leb (length b) 16 m) (e ∙ all_list title_byte b)

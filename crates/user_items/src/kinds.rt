@@ -11,6 +11,7 @@ const MAXIMUM: usize = 4;
 // Two numbers of two bytes.
 const COUNTS: usize = 4;
 
+// Types stay numbers: the public `items::count_of` and `first_of` take any, and every type but these is skipped.
 #[tactic(auto, unfolding(crate::specs::Private::OnePass::known_in, laws::specs::Lists::among))]
 pub(crate) fn known(t: u8) -> bool
     ensures { result ≡ known_in user_kinds t }

@@ -39,6 +39,7 @@ fn sub_ok(item: Item, behind: Items) -> bool
 fn subs_ok(s: &[u8]) -> bool
     ensures { result ≡ passes user_kinds (walk s.now) }
 {
+    // No `for`: those behind an item are handed on with it.
     let mut items = Items::of(s);
     while let Some(item) = items.next() {
         let Ok(item) = item else {

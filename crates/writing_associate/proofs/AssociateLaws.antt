@@ -21,7 +21,6 @@ use Rattle.titles.specs.Title.{title_ok}
 use Rattle.names.proofs.NameLaws.{name_short}
 use Rattle.titles.proofs.TitleLaws.{title_sixteen}
 use Rattle.sheets.specs.Sheet.{proposal_ok, answers_ok}
-use Rattle.sheets.proofs.Inverse.{proposal_whole, answers_whole}
 use Rattle.roles.specs.Sheet.{role_sheet_ok}
 use Rattle.user_items.specs.Kinds.{version_ok}
 use Rattle.user_items.specs.Sent.{User, count_ok, user_good}
@@ -95,7 +94,6 @@ module _ (f : RqFields) (z : rq_good f ≡ true) where
           middle_long = ap length q ∙ (let n = length-append f.called (f.calling ++ replicate 32 0) in let l = length-append f.calling (replicate 32 0) in omega arith);
           name_short = name_short f.application (left_of _ _ rq_names);
           user_fit = good_fit f.user (left_of _ _ rq_rest);
-          whole = proposal_whole f.sheet (right_of (user_good f.user) _ rq_rest);
         }
 
     pub rq_wrote : (o o' : List ℕ) (x : Sent) → Wrote (good_form (associate_bytes (pdu_of (record { answer = false; middle = m; application = f.application; user = f.user; sheet = f.sheet })))) o x o' → Wrote (rq_form f) o x o'
@@ -117,7 +115,6 @@ module _ (f : AcFields) where
         middle_long = eqb-true (length f.echoed) 64 (left_of _ _ parts);
         name_short = name_short f.application (left_of _ _ names);
         user_fit = good_fit f.user (left_of _ _ rest);
-        whole = answers_whole f.sheet (right_of (user_good f.user) _ rest);
       }
 
   pub ac_wrote : (o o' : List ℕ) (x : Sent) → ac_good f ≡ true → Wrote (good_form (associate_bytes (pdu_of (record { answer = true; middle = f.echoed; application = f.application; user = f.user; sheet = f.sheet })))) o x o' → Wrote (ac_form f) o x o'

@@ -1,292 +1,299 @@
--- Laws of a sheet's contexts, measured and written a record at a time.
+-- Laws of a sheet's contexts, measured and written over its records.
 -- Assumes nothing.
 use Prim.Native.Nat.{ℕ, ◌+◌, ◌/◌, ◌%◌, ◌≤◌, ◌<◌}
 use native.Mathlib.Omega.{arith}
-use mathlib.Core.Bool.{Bool, true, false, cond}
-use mathlib.Core.List.{List, [], ◌∷◌, ◌++◌, map, append_assoc}
-use mathlib.Core.Path.{◌≡◌, refl, sym, ap, ◌∙◌}
+use mathlib.Core.Bool.{Bool, true, false}
+use mathlib.Core.List.{List, [], ◌∷◌, ◌++◌, map}
+use mathlib.Core.Path.{◌≡◌, refl, ap, subst, ◌∙◌}
 use lib.ListN.{length, drop, get_or, length-append}
+use lib.Dec.{leb}
 use borrow.Author.Rules.{rules}
-use borrow.Author.Tests.{le-leb, lt-leb}
-use Rattle.numbers.specs.Lengths.{LONGEST, RECORD}
+use borrow.Author.Tests.{le-leb, lt-leb, leb-true, leb-false}
+use Rattle.std.proofs.lemmas.List.{drop_all}
+use Rattle.std.specs.List.{IsChunkByPrefix}
+use Rattle.numbers.specs.Lengths.{LONGEST}
+use Rattle.octets.specs.Octets.{two}
 use Rattle.octets.specs.Put.{Placed}
 use Rattle.octets.specs.Private.Put.{Put}
-use Rattle.octets.proofs.PutLaws.{Putting, putting_start, putting_next, putting_done, placed_put, put_nothing, next_room, next_put}
+use Rattle.octets.proofs.PutLaws.{placed_put}
 use Rattle.items.specs.Wire.{item_bytes, items_bytes}
 use Rattle.items.proofs.WireLaws.{item_length}
-use Rattle.sheets.specs.Contexts.{Context}
-use Rattle.sheets.specs.Sheet.{abstract_of, transfer_of, goes_on, first_transfers, others, start, contexts_in, answered_of, answers_in}
-use Rattle.sheets.specs.Record.{record_at, abstract_at, transfer_at, goes_on_at}
-use Rattle.sheets.proofs.RecordLaws.{abstract_here, transfer_here, abstract_short, transfer_short}
-use Rattle.sheets.proofs.RunLaws.{contexts_here, contexts_none, answers_here, answers_none, id_here, result_here, on_here, on_there}
+use Rattle.sheets.specs.Sheet.{abstract_of, transfer_of, sheet_runs, answered_of}
+use Rattle.sheets.specs.Record.{same_run}
+use Rattle.sheets.specs.Private.OneRecord.{run_context}
+use Rattle.sheets.proofs.RecordLaws.{abstract_first, transfer_first, abstract_short, transfer_short}
+use Rattle.sheets.proofs.RunLaws.{run_front}
 use Rattle.writing.specs.Wire.{context_body, answer_body}
-use Rattle.writing_associate.specs.Private.ContextItems.{run_bytes, open_bytes, context_bytes, context_head, lead_bytes, step_bytes, Ready, capped}
+use Rattle.writing_associate.specs.Private.ContextItems.{name_items, names_size, run_item, run_items, answer_item, answer_items, context_bytes, context_head, capped}
+use Rattle.writing_associate.proofs.ItemLaws.{Writing, writing_start, writing_room, writing_next, writing_done, drop_step, part_room, rest_room, both_put, item_room}
 
--- ---- one record in front of contexts
+-- ---- what comes first, and the rest
+names_cons : (r : List ℕ) (rs : List (List ℕ)) → name_items (r ∷ rs) ≡ item_bytes 0x40 (transfer_of r) ++ name_items rs
+unfolding name_items
+names_cons r rs = refl
 
--- the items behind the head of the context that it starts
-open_on : (r : List ℕ) (cs : List Context) → open_bytes true (start r cs) ≡ item_bytes 0x40 (transfer_of r) ++ open_bytes (goes_on r cs) cs
-unfolding open_bytes start
-open_on r cs = go cs (goes_on r cs)
-  where
-    go : (cs : List Context) (b : Bool)
-        → (item_bytes 0x40 (transfer_of r) ++ items_bytes 0x40 (cond b (first_transfers cs) [])) ++ items_bytes 0x20 (map context_body (cond b (others cs) cs)) ≡ item_bytes 0x40 (transfer_of r) ++ open_bytes b cs
-    go [] true = append_assoc (item_bytes 0x40 (transfer_of r)) [] []
-    go [] false = append_assoc (item_bytes 0x40 (transfer_of r)) [] []
-    go (c ∷ cs) true = append_assoc (item_bytes 0x40 (transfer_of r)) (items_bytes 0x40 c.transfers) (items_bytes 0x20 (map context_body cs))
-    go (c ∷ cs) false = append_assoc (item_bytes 0x40 (transfer_of r)) [] (items_bytes 0x20 (map context_body (c ∷ cs)))
+answers_cons : (r : List ℕ) (rs : List (List ℕ)) → answer_items (r ∷ rs) ≡ answer_item r ++ answer_items rs
+unfolding answer_items answer_item
+answers_cons r rs = refl
 
-lead_item : (i : ℕ) (a ts rest : List ℕ) → item_bytes 0x20 (i ∷ 0 ∷ 0 ∷ 0 ∷ (item_bytes 0x30 a ++ ts)) ++ rest ≡ (context_head 0x20 (8 + length a + length ts) i 0 ++ item_bytes 0x30 a) ++ (ts ++ rest)
-unfolding item_bytes context_head
-lead_item i a ts rest =
-    let e : length (i ∷ 0 ∷ 0 ∷ 0 ∷ (item_bytes 0x30 a ++ ts)) ≡ 8 + length a + length ts = simp length-append (omega arith) in
-    rw (e, append_assoc)
+-- the longest run at the front
+runs_cons : (run rest : List (List ℕ)) → 0 < length run → IsChunkByPrefix same_run (run ++ rest) (length run) → run_items (run ++ rest) ≡ run_item run ++ run_items rest
+unfolding run_items run_item
+runs_cons run rest h p = rw (run_front run rest h p)
 
-open_new : (r : List ℕ) (cs : List Context)
-    → open_bytes false (start r cs) ≡ (context_head 0x20 (8 + length (abstract_of r) + length (run_bytes (start r cs))) (get_or r 0 0) 0 ++ item_bytes 0x30 (abstract_of r)) ++ open_bytes true (start r cs)
-unfolding open_bytes start context_body
-open_new r cs = lead_item (get_or r 0 0) (abstract_of r) (items_bytes 0x40 (transfer_of r ∷ cond (goes_on r cs) (first_transfers cs) [])) (items_bytes 0x20 (map context_body (cond (goes_on r cs) (others cs) cs)))
+-- ---- how many bytes
+pub names_long : (rs : List (List ℕ)) → length (name_items rs) ≡ names_size 4 rs
+unfolding name_items names_size
+names_long [] = refl
+names_long (r ∷ rs) = let l = names_long rs in let a = length-append (item_bytes 0x40 (transfer_of r)) (items_bytes 0x40 (map transfer_of rs)) in let i = item_length 0x40 (transfer_of r) in omega arith
 
-answer_item : (i r : ℕ) (x rest : List ℕ) → item_bytes 0x21 (i ∷ 0 ∷ r ∷ 0 ∷ item_bytes 0x40 x) ++ rest ≡ context_head 0x21 (8 + length x) i r ++ (item_bytes 0x40 x ++ rest)
-unfolding item_bytes context_head
-answer_item i r x rest = let e : length (i ∷ 0 ∷ r ∷ 0 ∷ item_bytes 0x40 x) ≡ 8 + length x = omega arith in rw e
+answer_is : (r : List ℕ) → answer_item r ≡ context_head 0x21 (8 + length (transfer_of r)) (get_or r 0 0) (get_or r 1 0) ++ item_bytes 0x40 (transfer_of r)
+unfolding answer_item answer_body answered_of item_bytes context_head
+answer_is r = let e : length ((get_or r 0 0) ∷ 0 ∷ (get_or r 1 0) ∷ 0 ∷ item_bytes 0x40 (transfer_of r)) ≡ 8 + length (transfer_of r) = omega arith in rw e
 
 head_long : (kind n i r : ℕ) → length (context_head kind n i r) ≡ 8
 unfolding context_head
 head_long kind n i r = refl
 
--- THE law of measuring and writing: the head, if the record starts a context, its 40H, and the items from the next record on
-pub step_here : (k g : Bool) (s : List ℕ) (at : ℕ) → at + RECORD ≤ length s → context_bytes k g s at ≡ step_bytes k g s at ++ context_bytes k (goes_on_at s at) s (at + RECORD)
-unfolding context_bytes step_bytes lead_bytes answer_body answered_of
-step_here true g s at h =
-    rw (answers_here s at h, transfer_here s at h, id_here s at, result_here s at, append_assoc)
-    (answer_item (get_or s at 0) (get_or s (at + 1) 0) (transfer_of (record_at s at)) (items_bytes 0x21 (map answer_body (answers_in (drop (at + RECORD) s)))))
-step_here false true s at h = rw (contexts_here s at h, transfer_here s at h, on_here s at h, open_on)
-step_here false false s at h = rw (contexts_here s at h, transfer_here s at h, abstract_here s at h, on_here s at h, open_new, open_on, id_here) (simp append_assoc)
+answer_long : (r : List ℕ) → length (answer_item r) ≡ 12 + length (transfer_of r)
+answer_long r = rw answer_is (simp (length-append, head_long, item_length) (omega arith))
 
-pub contexts_over : (k g : Bool) (s : List ℕ) (at : ℕ) → length s ≤ at → context_bytes k g s at ≡ []
-unfolding context_bytes open_bytes
-contexts_over true g s at h = rw (answers_none s at (omega arith))
-contexts_over false g s at h = rw (contexts_none s at (omega arith))
+pub answers_long : (rs : List (List ℕ)) → length (answer_items rs) ≡ names_size 12 rs
+unfolding names_size answer_items
+answers_long [] = refl
+answers_long (r ∷ rs) = let l = answers_long rs in let a = length-append (answer_item r) (answer_items rs) in let i = answer_long r in ap length (answers_cons r rs) ∙ omega arith
 
--- ---- how many bytes
-lead_is : (k g : Bool) (s : List ℕ) (at : ℕ) → length (lead_bytes k g s at) ≡ cond k 8 (cond g 0 (12 + length (abstract_at s at)))
-unfolding lead_bytes
-lead_is true g s at = head_long _ _ _ _
-lead_is false true s at = refl
-lead_is false false s at = simp (length-append, head_long, item_length) (omega arith)
+-- the first record of a run
+abbrev pub first : List (List ℕ) → List ℕ
+first run = get_or run 0 []
 
-step_is : (k g : Bool) (s : List ℕ) (at : ℕ) → length (step_bytes k g s at) ≡ length (lead_bytes k g s at) + (4 + length (transfer_at s at))
-unfolding step_bytes
-step_is k g s at = simp (length-append, item_length)
+run_bytes : (r : List ℕ) (rs : List (List ℕ)) (m : ℕ) → length (get_or r 0 0 ∷ 0 ∷ 0 ∷ 0 ∷ (item_bytes 0x30 (abstract_of r) ++ name_items (r ∷ rs))) ≡ m
+    → run_item (r ∷ rs) ≡ context_head 0x20 m (get_or r 0 0) 0 ++ (item_bytes 0x30 (abstract_of r) ++ name_items (r ∷ rs))
+unfolding run_item run_context context_body name_items item_bytes context_head
+run_bytes r rs m e = rw e
 
-step_sum : (k g : Bool) (s : List ℕ) (at : ℕ) → at + RECORD ≤ length s → length (context_bytes k g s at) ≡ length (step_bytes k g s at) + length (context_bytes k (goes_on_at s at) s (at + RECORD))
-step_sum k g s at h = ap length (step_here k g s at h) ∙ simp length-append
+run_is : (run : List (List ℕ)) → 0 < length run
+    → run_item run ≡ context_head 0x20 (8 + length (abstract_of (first run)) + names_size 4 run) (get_or (first run) 0 0) 0 ++ (item_bytes 0x30 (abstract_of (first run)) ++ name_items run)
+run_is [] h = absurd (omega arith)
+run_is (r ∷ rs) h =
+    let n : length (name_items (r ∷ rs)) ≡ names_size 4 (r ∷ rs) = names_long (r ∷ rs) in
+    let e : length (get_or r 0 0 ∷ 0 ∷ 0 ∷ 0 ∷ (item_bytes 0x30 (abstract_of r) ++ name_items (r ∷ rs))) ≡ 8 + length (abstract_of r) + names_size 4 (r ∷ rs) = (let a = length-append (item_bytes 0x30 (abstract_of r)) (name_items (r ∷ rs)) in let i = item_length 0x30 (abstract_of r) in omega arith) in
+    run_bytes r rs _ e
 
--- ---- `transfer_len`, `abstract_len`, `step_size`
-pub transfer_len : (s x : List ℕ) (at : ℕ) → x ≡ transfer_at s at → length x ≡ length (transfer_at s at)
-transfer_len s x at e = ap length e
+run_long : (run : List (List ℕ)) → 0 < length run → length (run_item run) ≡ 12 + length (abstract_of (first run)) + names_size 4 run
+run_long run h =
+    rw (run_is run h) (let n = names_long run in simp (length-append, head_long, item_length) (omega arith))
 
-pub abstract_len : (s y : List ℕ) (at : ℕ) → y ≡ abstract_at s at → length y ≡ length (abstract_at s at)
-abstract_len s y at e = ap length e
+-- ---- `transfer_len`, `abstract_len`
+pub transfer_64 : (r : List ℕ) → length r ≡ 132 → length (transfer_of r) ≤ 64
+transfer_64 r h = rw (← transfer_first r h) (transfer_short r 0)
 
-pub transfer_64 : (s x : List ℕ) (at : ℕ) → x ≡ transfer_at s at → length x ≤ 64
-transfer_64 s x at e = rw e (transfer_short s at)
+pub abstract_64 : (r : List ℕ) → length r ≡ 132 → length (abstract_of r) ≤ 64
+abstract_64 r h = rw (← abstract_first r h) (abstract_short r 0)
 
-pub abstract_64 : (s y : List ℕ) (at : ℕ) → y ≡ abstract_at s at → length y ≤ 64
-abstract_64 s y at e = rw e (abstract_short s at)
+-- ---- measured: n counts the base and what is gone over, and all of it keeps the limit
+pub capped_low : (n : ℕ) → n ≤ LONGEST → n ≡ capped n
+unfolding capped
+capped_low n h = simp (le-leb n LONGEST h)
 
-pub ruleset length_laws = (rules, transfer_len, abstract_len, transfer_64, abstract_64)
+pub capped_high : (n : ℕ) → LONGEST < n → LONGEST + 1 ≡ capped n
+unfolding capped
+capped_high n h = simp (lt-leb n LONGEST h)
 
-module _ (k g : Bool) (s : List ℕ) (at x : ℕ) (e : x ≡ length (transfer_at s at)) where
-  pub size_answer : k ≡ true → 12 + x ≡ length (step_bytes k g s at)
-  size_answer t = let b = step_is k g s at in let c : length (lead_bytes k g s at) ≡ 8 = lead_is k g s at ∙ rw t in omega arith
+capped_by : (x n : ℕ) → n ≡ capped x → (n ≤ LONGEST → n ≡ x) × (LONGEST < n → LONGEST < x)
+unfolding capped
+capped_by x n e = go (leb x LONGEST) refl
+  where
+    go : (b : Bool) → leb x LONGEST ≡ b → (n ≤ LONGEST → n ≡ x) × (LONGEST < n → LONGEST < x)
+    go true q = let z : n ≡ x = e ∙ simp q in (λ h. z, λ h. omega arith)
+    go false q = let z : n ≡ LONGEST + 1 = e ∙ simp q in let l = leb-false x LONGEST q in (λ h. absurd (omega arith), λ h. l)
 
-  pub size_on : k ≡ false → g ≡ true → 4 + x ≡ length (step_bytes k g s at)
-  size_on t u = let b = step_is k g s at in let c : length (lead_bytes k g s at) ≡ 0 = lead_is k g s at ∙ rw (t, u) in omega arith
+module _ (head base : ℕ) (rs : List (List ℕ)) (n i : ℕ) (v : base + names_size head rs ≡ n + names_size head (drop i rs)) where
+  module _ (h : i < length rs) (x : List ℕ) (q : x ≡ transfer_of (get_or rs i [])) where
+    names_here : names_size head (drop i rs) ≡ head + length x + names_size head (drop (i + 1) rs)
+    unfolding names_size
+    names_here = rw (drop_step rs i [] h, ← q)
 
-  pub size_new : (y : ℕ) → k ≡ false → g ≡ false → y ≡ length (abstract_at s at) → 16 + y + x ≡ length (step_bytes k g s at)
-  size_new y t u f = let b = step_is k g s at in let c : length (lead_bytes k g s at) ≡ 12 + length (abstract_at s at) = lead_is k g s at ∙ rw (t, u) in omega arith
+    pub names_next : base + names_size head rs ≡ n + (head + length x) + names_size head (drop (i + 1) rs)
+    names_next = let l = names_here in omega arith
 
-pub ruleset size_laws = (rules, size_answer, size_on, size_new)
+    pub names_over : LONGEST < n + (head + length x) → LONGEST + 1 ≡ capped (base + names_size head rs)
+    names_over o = let l = names_here in capped_high _ (omega arith)
+
+  pub names_done : length rs ≤ i → n ≤ LONGEST → n ≡ capped (base + names_size head rs)
+  unfolding names_size
+  names_done h l = let e = drop_all i rs h in let d : names_size head (drop i rs) ≡ 0 = rw e in let z : n ≡ base + names_size head rs = omega arith in z ∙ capped_low _ (omega arith)
+
+pub ruleset names_laws = (rules, names_next, names_over, names_done)
+
+-- runs
+module _ (rest x more : List (List ℕ)) (e : rest ≡ x ++ more) (h : 0 < length x) (p : IsChunkByPrefix same_run rest (length x)) where
+  pub runs_here : run_items rest ≡ run_item x ++ run_items more
+  runs_here = rw e (runs_cons x more h (subst (λ (rs : List (List ℕ)). IsChunkByPrefix same_run rs (length x)) e p))
+
+  runs_sum : length (run_items rest) ≡ 12 + length (abstract_of (first x)) + names_size 4 x + length (run_items more)
+  runs_sum = let l = run_long x h in let a = length-append (run_item x) (run_items more) in ap length runs_here ∙ omega arith
+
+  module _ (base all n m : ℕ) (a : List ℕ) (v : base + all ≡ n + length (run_items rest)) (q : m ≡ capped (n + names_size 4 x)) (r : a ≡ abstract_of (first x)) where
+    pub runs_next : m + 12 + length a ≤ LONGEST → base + all ≡ m + 12 + length a + length (run_items more)
+    runs_next o = let s = runs_sum in let d = ap length r in let k : m ≡ n + names_size 4 x = (capped_by (n + names_size 4 x) m q).0 (omega arith) in omega arith
+
+    pub runs_over : LONGEST < m + 12 + length a → LONGEST + 1 ≡ capped (base + all)
+    runs_over o = go (leb m LONGEST) refl
+      where
+        go : (b : Bool) → leb m LONGEST ≡ b → LONGEST + 1 ≡ capped (base + all)
+        go true t =
+            let s = runs_sum in
+            let d = ap length r in
+            let k : m ≡ n + names_size 4 x = (capped_by (n + names_size 4 x) m q).0 (leb-true m LONGEST t) in
+            capped_high (base + all) (omega arith)
+        go false t =
+            let s = runs_sum in
+            let d = ap length r in
+            let k : LONGEST < n + names_size 4 x = (capped_by (n + names_size 4 x) m q).1 (leb-false m LONGEST t) in
+            capped_high (base + all) (omega arith)
+
+pub runs_none : (rest : List (List ℕ)) → length rest ≡ 0 → run_items rest ≡ []
+unfolding run_items sheet_runs
+runs_none [] h = refl
+runs_none (r ∷ rs) h = absurd (omega arith)
+
+pub runs_done : (rest : List (List ℕ)) (base all n : ℕ) → base + all ≡ n + length (run_items rest) → length rest ≡ 0 → n ≤ LONGEST → n ≡ capped (base + all)
+runs_done rest base all n v h l = let d = ap length (runs_none rest h) in let z : n ≡ base + all = omega arith in z ∙ capped_low (base + all) (omega arith)
+
+pub capped_16385 : (n x : ℕ) → n ≡ capped x → n ≤ LONGEST + 1
+unfolding capped
+capped_16385 n x e = go (leb x LONGEST) refl
+  where
+    go : (b : Bool) → leb x LONGEST ≡ b → n ≤ LONGEST + 1
+    go true q = let z : n ≡ x = e ∙ simp q in let l = leb-true x LONGEST q in omega arith
+    go false q = let z : n ≡ LONGEST + 1 = e ∙ simp q in omega arith
 
 -- ---- `measure`
-module _ (k g : Bool) (s : List ℕ) (at n all : ℕ) (v : all ≡ n + length (context_bytes k g s at)) where
-  pub measure_next : (m : ℕ) (b : Bool) → length s % RECORD ≡ 0 → at % RECORD ≡ 0 → at < length s → m ≡ length (step_bytes k g s at) → b ≡ goes_on_at s at → all ≡ n + m + length (context_bytes k b s (at + RECORD))
-  measure_next m b w z h q p = let l = step_sum k g s at (omega arith) in rw p (omega arith)
+pub measure_runs : (base n : ℕ) (rs : List (List ℕ)) → n ≡ capped (base + length (run_items rs)) → n ≡ capped (base + length (context_bytes false rs))
+unfolding context_bytes
+measure_runs base n rs e = e
 
-  pub measure_over : (m : ℕ) → length s % RECORD ≡ 0 → at % RECORD ≡ 0 → at < length s → m ≡ length (step_bytes k g s at) → LONGEST < n + m → LONGEST + 1 ≡ capped all
-  unfolding capped
-  measure_over m w z h q o = let l = step_sum k g s at (omega arith) in simp (lt-leb all LONGEST (omega arith))
-
-  pub measure_done : length s ≤ at → n ≤ LONGEST → n ≡ capped all
-  unfolding capped
-  measure_done h m =
-      let p : all ≡ n = v ∙ (rw (contexts_over k g s at h) (omega arith)) in
-      rw p (simp (le-leb n LONGEST m))
-
-pub ruleset measure_laws = (rules, measure_next, measure_over, measure_done)
-
--- ---- `run_size`: what is left of the run behind the record at a place
-pub run_after : List ℕ → ℕ → ℕ
-run_after s at = length (items_bytes 0x40 (cond (goes_on_at s at) (first_transfers (contexts_in (drop (at + RECORD) s))) []))
-
-run_here : (s : List ℕ) (at : ℕ) → at + RECORD ≤ length s → length (run_bytes (contexts_in (drop at s))) ≡ 4 + length (transfer_at s at) + run_after s at
-unfolding run_after start
-run_here s at h = rw (contexts_here s at h, transfer_here s at h, on_here s at h, length-append, item_length)
-
-pub run_start : (s : List ℕ) (at x : ℕ) → at + RECORD ≤ length s → x ≡ length (transfer_at s at) → length (run_bytes (contexts_in (drop at s))) ≡ 4 + x + run_after s at
-run_start s at x h e = run_here s at h ∙ rw e
-
-module _ (s : List ℕ) (at n all : ℕ) (b : Bool) (v : all ≡ n + run_after s at) (p : b ≡ goes_on_at s at) where
-  -- a record that goes on a run is there
-  pub run_more : b ≡ true → at + RECORD ≤ length s → at + RECORD + RECORD ≤ length s
-  run_more t h = on_there s at (sym p ∙ t)
-
-  pub run_next : (x : ℕ) → b ≡ true → at + RECORD ≤ length s → x ≡ length (transfer_at s (at + RECORD)) → all ≡ n + (4 + x) + run_after s (at + RECORD)
-  unfolding run_after
-  run_next x t h e =
-      let h' : at + RECORD + RECORD ≤ length s = run_more t h in
-      let u : run_after s at ≡ length (run_bytes (contexts_in (drop (at + RECORD) s))) = rw (← p, t) in
-      let l = run_here s (at + RECORD) h' in
-      let w : all ≡ n + (4 + x) + run_after s (at + RECORD) = omega arith in
-      w
-
-  pub run_done : b ≡ false → n ≡ all
-  unfolding run_after
-  run_done t = sym (v ∙ (rw (← p, t) (omega arith)))
-
-  pub run_fits : all ≤ LONGEST → n ≤ LONGEST
-  run_fits h = omega arith
-
-pub ruleset run_laws = (rules, run_start, run_more, run_next, run_done, run_fits)
+pub measure_answers : (base n : ℕ) (rs : List (List ℕ)) → n ≡ capped (base + names_size 12 rs) → n ≡ capped (base + length (context_bytes true rs))
+unfolding context_bytes
+measure_answers base n rs e = rw answers_long e
 
 -- ---- `put_head`
-pub head_put : (o o₁ : List ℕ) (at kind n id result r : ℕ) → at + 8 ≤ length o → Placed o at (kind ∷ 0 ∷ n / 256 ∷ n % 256 ∷ id ∷ 0 ∷ result ∷ 0 ∷ []) r o₁ → Put o at (context_head kind n id result) r o₁
+pub head_put : (o l o₁ : List ℕ) (at kind n id result r : ℕ) → at + 8 ≤ length o → l ≡ two n → Placed o at (kind ∷ 0 ∷ get_or l 0 0 ∷ get_or l 1 0 ∷ id ∷ 0 ∷ result ∷ 0 ∷ []) r o₁ → Put o at (context_head kind n id result) r o₁
 unfolding context_head
-head_put o o₁ at kind n id result r h p = placed_put o at (kind ∷ 0 ∷ n / 256 ∷ n % 256 ∷ id ∷ 0 ∷ result ∷ 0 ∷ []) p (omega arith)
+head_put o l o₁ at kind n id result r h e p = placed_put o at (kind ∷ 0 ∷ n / 256 ∷ n % 256 ∷ id ∷ 0 ∷ result ∷ 0 ∷ []) (rw e at p) (omega arith)
 
 pub ruleset head_laws = (rules, head_put)
 
--- ---- `put_lead`
-pub lead_none : (k g : Bool) (s o : List ℕ) (at n : ℕ) → k ≡ false → g ≡ true → Put o n (lead_bytes k g s at) n o
-unfolding lead_bytes
-lead_none k g s o at n t u = rw (t, u) (put_nothing o n)
+-- ---- `put_names`
+names_rest : (rs : List (List ℕ)) (i : ℕ) (x : List ℕ) → i < length rs → x ≡ transfer_of (get_or rs i []) → name_items (drop i rs) ≡ item_bytes 0x40 x ++ name_items (drop (i + 1) rs)
+names_rest rs i x h q = rw q (ap name_items (drop_step rs i [] h) ∙ names_cons (get_or rs i []) (drop (i + 1) rs))
 
-open_run : (cs : List Context) → length (run_bytes cs) ≤ length (open_bytes true cs)
-unfolding open_bytes
-open_run [] = omega arith
-open_run (c ∷ cs) = omega (arith, length-append (items_bytes 0x40 c.transfers) (items_bytes 0x20 (map context_body cs)))
+names_none : (rs : List (List ℕ)) (i : ℕ) → length rs ≤ i → name_items (drop i rs) ≡ []
+unfolding name_items
+names_none rs i h = rw (drop_all i rs h)
 
-module _ (k g : Bool) (s o : List ℕ) (at n : ℕ) (y : Ready k g s at o n) where
-  all_sum : length (context_bytes k g s at) ≡ length (lead_bytes k g s at) + (4 + length (transfer_at s at)) + length (context_bytes k (goes_on_at s at) s (at + RECORD))
-  all_sum = let a = step_sum k g s at y.here in let b = step_is k g s at in omega arith
+module _ (o₀ all o : List ℕ) (rs : List (List ℕ)) (from n i : ℕ) (w : Writing o₀ from all o n (name_items (drop i rs))) where
+  module _ (h : i < length rs) (x : List ℕ) (q : x ≡ transfer_of (get_or rs i [])) where
+    pub names_room : n + 4 + length x ≤ length o
+    names_room = item_room o x n 0x40 (writing_room o₀ all o _ from n w (item_bytes 0x40 x) _ (names_rest rs i x h q))
 
-  module _ (x : ℕ) (t : k ≡ true) (e : x ≡ length (transfer_at s at)) where
-    pub lead_answer_room : n + 8 ≤ length o
-    lead_answer_room = let a = all_sum in let b : length (lead_bytes k g s at) ≡ 8 = lead_is k g s at ∙ rw t in let r = y.room in omega arith
+    pub names_more : (o' : List ℕ) (n' : ℕ) → Put o n (item_bytes 0x40 x) n' o' → Writing o₀ from all o' n' (name_items (drop (i + 1) rs))
+    names_more = writing_next o₀ all o _ from n w (item_bytes 0x40 x) _ (names_rest rs i x h q)
 
-    pub lead_answer_small : x ≤ 64 → 8 + x < 65536
-    lead_answer_small h = omega arith
+  pub names_end : length rs ≤ i → Put o₀ from all n o
+  names_end h = writing_done o₀ all o _ from n w (names_none rs i h)
 
-    pub lead_answer : (o' : List ℕ) (r : ℕ) → Put o n (context_head 0x21 (8 + x) (get_or s at 0) (get_or s (at + 1) 0)) r o' → Put o n (lead_bytes k g s at) r o'
-    unfolding lead_bytes
-    lead_answer o' r p = rw (t, ← e) p
+pub ruleset put_names_laws = (rules, writing_start, names_room, names_more, names_end)
 
-  module _ (t : k ≡ false) (u : g ≡ false) where
-    pub lead_run : length (run_bytes (contexts_in (drop at s))) ≤ LONGEST
-    unfolding context_bytes
-    lead_run =
-        let a : length (context_bytes k g s at) ≡ 8 + (4 + length (abstract_of (record_at s at))) + length (open_bytes true (contexts_in (drop at s))) = rw (t, u, contexts_here s at y.here, open_new) (simp (length-append, head_long, item_length)) in
-        let b = open_run (contexts_in (drop at s)) in
-        let c = y.small in
-        omega arith
+-- ---- `put_answers`
+answers_rest : (rs : List (List ℕ)) (i : ℕ) → i < length rs → answer_items (drop i rs) ≡ answer_item (get_or rs i []) ++ answer_items (drop (i + 1) rs)
+answers_rest rs i h = ap answer_items (drop_step rs i [] h) ∙ answers_cons (get_or rs i []) (drop (i + 1) rs)
 
-    module _ (a : List ℕ) (m : ℕ) (e : a ≡ abstract_at s at) (q : m ≡ length (run_bytes (contexts_in (drop at s)))) where
-      pub lead_small : 8 + length a + m < 65536
-      lead_small = let l = lead_run in let x = abstract_64 s a at e in omega arith
+answers_none : (rs : List (List ℕ)) (i : ℕ) → length rs ≤ i → answer_items (drop i rs) ≡ []
+unfolding answer_items
+answers_none rs i h = rw (drop_all i rs h)
 
-      pub name_small : length a < 65536
-      name_small = let x = abstract_64 s a at e in omega arith
+module _ (o₀ all o : List ℕ) (rs : List (List ℕ)) (from n i : ℕ) (w : Writing o₀ from all o n (answer_items (drop i rs))) where
+  module _ (h : i < length rs) where
+    pub answers_room : n + length (answer_item (get_or rs i [])) ≤ length o
+    answers_room = writing_room o₀ all o _ from n w _ _ (answers_rest rs i h)
 
-      lead_all : n + (8 + (4 + length a)) ≤ length o
-      lead_all =
-          let l = all_sum in
-          let b : length (lead_bytes k g s at) ≡ 12 + length (abstract_at s at) = lead_is k g s at ∙ rw (t, u) in
-          let r = y.room in
-          let d = ap length e in
-          omega arith
+    pub answers_more : (o' : List ℕ) (n' : ℕ) → Put o n (answer_item (get_or rs i [])) n' o' → Writing o₀ from all o' n' (answer_items (drop (i + 1) rs))
+    answers_more = writing_next o₀ all o _ from n w _ _ (answers_rest rs i h)
 
-      pub lead_room : n + 8 ≤ length o
-      lead_room = let l = lead_all in omega arith
+  pub answers_end : length rs ≤ i → Put o₀ from all n o
+  answers_end h = writing_done o₀ all o _ from n w (answers_none rs i h)
 
-      module _ (o₁ : List ℕ) (i : ℕ) (p : Put o n (context_head 0x20 (8 + length a + m) (get_or s at 0) 0) i o₁) where
-        both_room : n + (length (context_head 0x20 (8 + length a + m) (get_or s at 0) 0) + length (item_bytes 0x30 a)) ≤ length o
-        both_room = let l = lead_all in let h = head_long 0x20 (8 + length a + m) (get_or s at 0) 0 in let j = item_length 0x30 a in omega arith
+pub ruleset put_answers_laws = (rules, writing_start, answers_room, answers_more, answers_end)
 
-        pub name_room : i + 4 + length a ≤ length o₁
-        name_room = let r = next_room o n (context_head 0x20 (8 + length a + m) (get_or s at 0) 0) (item_bytes 0x30 a) o₁ i both_room p in let j = item_length 0x30 a in omega arith
+-- ---- `put_answer`
+module _ (r o x : List ℕ) (at : ℕ) (g : at + length (answer_item r) ≤ length o) (e : x ≡ transfer_of r) where
+  answer_eq : answer_item r ≡ context_head 0x21 (8 + length x) (get_or r 0 0) (get_or r 1 0) ++ item_bytes 0x40 x
+  answer_eq = rw e (answer_is r)
 
-        pub lead_out : (o' : List ℕ) (r : ℕ) → Put o₁ i (item_bytes 0x30 a) r o' → Put o n (lead_bytes k g s at) r o'
-        unfolding lead_bytes
-        lead_out o' r w = rw (t, u, ← e, ← q) (next_put o n (context_head 0x20 (8 + length a + m) (get_or s at 0) 0) (item_bytes 0x30 a) o₁ i both_room p w)
+  answer_all : at + length (context_head 0x21 (8 + length x) (get_or r 0 0) (get_or r 1 0) ++ item_bytes 0x40 x) ≤ length o
+  answer_all = rw answer_eq at g
 
-pub ruleset lead_laws = (rules, lead_none, lead_answer_room, lead_answer_small, lead_answer, lead_run, lead_small, lead_room, name_room, name_small, lead_out)
+  pub answer_room : at + 8 ≤ length o
+  answer_room = let p = part_room o (context_head 0x21 (8 + length x) (get_or r 0 0) (get_or r 1 0)) (item_bytes 0x40 x) at answer_all in let l = head_long 0x21 (8 + length x) (get_or r 0 0) (get_or r 1 0) in omega arith
 
--- ---- `put_step`
-module _ (k g : Bool) (s o : List ℕ) (at n : ℕ) (y : Ready k g s at o n) (o₁ x : List ℕ) (e : ℕ) (p : Put o n (lead_bytes k g s at) e o₁) (f : x ≡ transfer_at s at) where
-  step_all : n + (length (lead_bytes k g s at) + length (item_bytes 0x40 (transfer_at s at))) ≤ length o
-  step_all = let a = all_sum k g s o at n y in let l = item_length 0x40 (transfer_at s at) in let r = y.room in omega arith
+  module _ (o₁ : List ℕ) (i : ℕ) (p : Put o at (context_head 0x21 (8 + length x) (get_or r 0 0) (get_or r 1 0)) i o₁) where
+    pub answer_name : i + 4 + length x ≤ length o₁
+    answer_name = item_room o₁ x i 0x40 (rest_room o (context_head 0x21 (8 + length x) (get_or r 0 0) (get_or r 1 0)) (item_bytes 0x40 x) at answer_all o₁ i p)
 
-  pub step_room : e + 4 + length x ≤ length o₁
-  step_room =
-      let l = item_length 0x40 (transfer_at s at) in
-      let r = next_room o n (lead_bytes k g s at) (item_bytes 0x40 (transfer_at s at)) o₁ e step_all p in
-      let m = ap length f in
-      omega arith
+    pub answer_put : (o₂ : List ℕ) (j : ℕ) → Put o₁ i (item_bytes 0x40 x) j o₂ → Put o at (answer_item r) j o₂
+    answer_put o₂ j q = rw answer_eq (both_put o (context_head 0x21 (8 + length x) (get_or r 0 0) (get_or r 1 0)) (item_bytes 0x40 x) at answer_all o₁ i p o₂ j q)
 
-  pub step_put : (o₂ : List ℕ) (r : ℕ) → Put o₁ e (item_bytes 0x40 x) r o₂ → Put o n (step_bytes k g s at) r o₂
-  unfolding step_bytes
-  step_put o₂ r q = next_put o n (lead_bytes k g s at) (item_bytes 0x40 (transfer_at s at)) o₁ e step_all p (rw (← f) q)
+pub ruleset put_answer_laws = (rules, answer_room, answer_name, answer_put)
 
-  pub step_small : length x < 65536
-  step_small = let a = transfer_64 s x at f in omega arith
+-- ---- `put_run`
+module _ (run : List (List ℕ)) (o : List ℕ) (at : ℕ) (h : 0 < length run) (g : at + length (run_item run) ≤ length o) (s : length (run_item run) ≤ LONGEST) (a : List ℕ) (m : ℕ) (e : a ≡ abstract_of (first run)) (q : m ≡ capped (0 + names_size 4 run)) where
+  count_is : m ≡ names_size 4 run
+  count_is = let l = run_long run h in let z = capped_low (0 + names_size 4 run) (omega arith) in omega arith
 
-pub ruleset step_laws = (rules, step_room, step_put, step_small)
+  abbrev lead : List ℕ
+  lead = context_head 0x20 (8 + length a + m) (get_or (first run) 0 0) 0
 
--- ---- `put_contexts`
-pub record Writing (k : Bool) (s o₀ : List ℕ) (from : ℕ) (o : List ℕ) (n : ℕ) (g : Bool) (at : ℕ) : Type 0 where
-  pub putting : Putting o₀ from (context_bytes k false s 0) o n (context_bytes k g s at)
-  pub small : length (context_bytes k g s at) ≤ LONGEST
-  pub room : n + length (context_bytes k g s at) ≤ length o
-  pub place : at % RECORD ≡ 0
-  pub to : at ≤ length s
+  run_eq : run_item run ≡ lead ++ (item_bytes 0x30 a ++ name_items run)
+  run_eq = rw (count_is, e) (run_is run h)
 
-pub write_start : (k : Bool) (s o : List ℕ) (from : ℕ) → from + length (context_bytes k false s 0) ≤ length o → length (context_bytes k false s 0) ≤ LONGEST → Writing k s o from o from false 0
-write_start k s o from h m = record { putting = putting_start o from (context_bytes k false s 0); small = m; room = h; place = refl; to = omega arith }
+  run_all : at + length (lead ++ (item_bytes 0x30 a ++ name_items run)) ≤ length o
+  run_all = rw run_eq at g
 
-module _ (k : Bool) (s o₀ o : List ℕ) (from n at : ℕ) (g : Bool) (w : Writing k s o₀ from o n g at) where
-  pub write_long : length o ≡ length o₀
-  write_long = w.putting.long
+  pub run_small : 8 + length a + m < 65536
+  run_small = let l = run_long run h in let c = count_is in let d = ap length e in omega arith
 
-  pub write_ready : length s % RECORD ≡ 0 → at < length s → Ready k g s at o n
-  write_ready z h = record { here = (let p = w.place in omega arith); room = w.room; small = w.small }
+  pub run_room : at + 8 ≤ length o
+  run_room = let p = part_room o lead (item_bytes 0x30 a ++ name_items run) at run_all in let l = head_long 0x20 (8 + length a + m) (get_or (first run) 0 0) 0 in omega arith
 
-  pub write_next : (o₂ : List ℕ) (n' : ℕ) (b : Bool) → length s % RECORD ≡ 0 → at < length s → Put o n (step_bytes k g s at) n' o₂ → b ≡ goes_on_at s at → Writing k s o₀ from o₂ n' b (at + RECORD)
-  write_next o₂ n' b z h q a =
-      let here : at + RECORD ≤ length s = (let p = w.place in omega arith) in
-      let sum : length (context_bytes k g s at) ≡ length (step_bytes k g s at) + length (context_bytes k b s (at + RECORD)) = step_sum k g s at here ∙ rw a in
-      let room = w.room in
-      let small = w.small in
-      let place = w.place in
-      let j = q.behind in
-      let all : context_bytes k g s at ≡ step_bytes k g s at ++ context_bytes k b s (at + RECORD) = step_here k g s at here ∙ rw a in
-      let f = putting_next o₀ (context_bytes k false s 0) o (context_bytes k g s at) from n w.putting (step_bytes k g s at) (context_bytes k b s (at + RECORD)) o₂ n' all (omega arith) q in
-      let l = f.long in
-      let m = w.putting.long in
-      record { putting = f; small = omega arith; room = omega arith; place = omega arith; to = here }
+  module _ (o₁ : List ℕ) (i : ℕ) (p : Put o at (context_head 0x20 (8 + length a + m) (get_or (first run) 0 0) 0) i o₁) where
+    behind : i + length (item_bytes 0x30 a ++ name_items run) ≤ length o₁
+    behind = rest_room o lead (item_bytes 0x30 a ++ name_items run) at run_all o₁ i p
 
-  pub write_done : length s ≤ at → Put o₀ from (context_bytes k false s 0) n o
-  write_done h = putting_done o₀ (context_bytes k false s 0) o (context_bytes k g s at) from n w.putting (contexts_over k g s at h)
+    pub run_name : i + 4 + length a ≤ length o₁
+    run_name = item_room o₁ a i 0x30 (part_room o₁ (item_bytes 0x30 a) (name_items run) i behind)
 
-pub ruleset write_laws = (rules, write_start, write_long, write_ready, write_next, write_done)
+    module _ (o₂ : List ℕ) (j : ℕ) (t : Put o₁ i (item_bytes 0x30 a) j o₂) where
+      pub run_names : j + length (name_items run) ≤ length o₂
+      run_names = rest_room o₁ (item_bytes 0x30 a) (name_items run) i behind o₂ j t
+
+      pub run_put : (o₃ : List ℕ) (k : ℕ) → Put o₂ j (name_items run) k o₃ → Put o at (run_item run) k o₃
+      run_put o₃ k u =
+          rw run_eq (both_put o lead (item_bytes 0x30 a ++ name_items run) at run_all o₁ i p o₃ k (both_put o₁ (item_bytes 0x30 a) (name_items run) i behind o₂ j t o₃ k u))
+
+pub ruleset put_run_laws = (rules, capped_16385, run_small, run_room, run_name, run_names, run_put)
+
+-- ---- `put_runs`
+module _ (o₀ all o : List ℕ) (rest x more : List (List ℕ)) (from n : ℕ) (w : Writing o₀ from all o n (run_items rest)) (e : rest ≡ x ++ more) (h : 0 < length x) (p : IsChunkByPrefix same_run rest (length x)) where
+  pub each_room : n + length (run_item x) ≤ length o
+  each_room = writing_room o₀ all o _ from n w (run_item x) (run_items more) (runs_here rest x more e h p)
+
+  pub each_small : length (run_items rest) ≤ LONGEST → (length (run_item x) ≤ LONGEST) × (length (run_items more) ≤ LONGEST)
+  each_small s = let a = ap length (runs_here rest x more e h p) in let b = length-append (run_item x) (run_items more) in (omega arith, omega arith)
+
+  pub each_more : (o' : List ℕ) (n' : ℕ) → Put o n (run_item x) n' o' → Writing o₀ from all o' n' (run_items more)
+  each_more = writing_next o₀ all o _ from n w (run_item x) (run_items more) (runs_here rest x more e h p)
+
+pub runs_end : (o₀ all o : List ℕ) (rest : List (List ℕ)) (from n : ℕ) → Writing o₀ from all o n (run_items rest) → length rest ≡ 0 → Put o₀ from all n o
+runs_end o₀ all o rest from n w h = writing_done o₀ all o _ from n w (runs_none rest h)

@@ -1,20 +1,25 @@
 -- Laws of parts that are put one behind the other where all have room, and of an item.
 -- Assumes nothing.
-use Prim.Native.Nat.{ℕ, ◌+◌, ◌/◌, ◌%◌, ◌≤◌}
+use Prim.Native.Nat.{ℕ, ◌+◌, ◌/◌, ◌%◌, ◌≤◌, ◌<◌}
+use native.Mathlib.Numerals.{add-one}
+use mathlib.Core.Path.{◌≡◌, ap, ◌∙◌}
+use lib.Seq.{drop-cons}
 use native.Mathlib.Omega.{arith}
 use mathlib.Core.List.{List, [], ◌∷◌, ◌++◌}
-use lib.ListN.{length, length-append}
+use lib.ListN.{length, drop, get_or, length-append}
 use borrow.Author.Rules.{rules}
+use Rattle.octets.specs.Octets.{two}
 use Rattle.octets.specs.Put.{Placed}
 use Rattle.octets.specs.Private.Put.{Put}
-use Rattle.octets.proofs.PutLaws.{placed_next, next_room, next_put}
+use Rattle.octets.proofs.PutLaws.{Putting, putting_start, putting_next, putting_done, placed_next, next_room, next_put}
 use Rattle.items.specs.Wire.{item_bytes}
 use Rattle.items.proofs.WireLaws.{item_length}
 
 -- ---- `put_item`
-pub item_put : (o body o₁ o₂ : List ℕ) (at kind m r : ℕ) → at + 4 + length body ≤ length o → Placed o at (kind ∷ 0 ∷ length body / 256 ∷ length body % 256 ∷ []) m o₁ → Placed o₁ m body r o₂ → Put o at (item_bytes kind body) r o₂
+pub item_put : (o body l o₁ o₂ : List ℕ) (at kind m r : ℕ) → at + 4 + length body ≤ length o → l ≡ two (length body) → Placed o at (kind ∷ 0 ∷ get_or l 0 0 ∷ get_or l 1 0 ∷ []) m o₁ → Placed o₁ m body r o₂ → Put o at (item_bytes kind body) r o₂
 unfolding item_bytes
-item_put o body o₁ o₂ at kind m r h p q = placed_next o at (kind ∷ 0 ∷ length body / 256 ∷ length body % 256 ∷ []) body o₁ m (omega arith) p q
+item_put o body l o₁ o₂ at kind m r h e p q =
+    placed_next o at (kind ∷ 0 ∷ length body / 256 ∷ length body % 256 ∷ []) body o₁ m (omega arith) (rw e at p) q
 
 pub ruleset item_laws = (rules, item_put)
 
@@ -36,3 +41,32 @@ module _ (o part rest : List ℕ) (at : ℕ) (h : at + length (part ++ rest) ≤
 -- the room of an item, as `put_item` wants it
 pub item_room : (o body : List ℕ) (at kind : ℕ) → at + length (item_bytes kind body) ≤ length o → at + 4 + length body ≤ length o
 item_room o body at kind h = omega (arith, item_length kind body)
+
+-- ---- a loop that puts parts one behind the other: all that comes before place n is there, and the rest has room
+pub record Writing (o₀ : List ℕ) (from : ℕ) (all o : List ℕ) (n : ℕ) (rest : List ℕ) : Type 0 where
+  pub putting : Putting o₀ from all o n rest
+  pub room : n + length rest ≤ length o
+
+pub writing_start : (o : List ℕ) (from : ℕ) (all : List ℕ) → from + length all ≤ length o → Writing o from all o from all
+writing_start o from all h = record { putting = putting_start o from all; room = h }
+
+module _ (o₀ all o rest : List ℕ) (from n : ℕ) (w : Writing o₀ from all o n rest) where
+  pub writing_room : (a rest' : List ℕ) → rest ≡ a ++ rest' → n + length a ≤ length o
+  writing_room a rest' e = let l = ap length e ∙ length-append a rest' in let r = w.room in omega arith
+
+  pub writing_next : (a rest' : List ℕ) → rest ≡ a ++ rest' → (o' : List ℕ) (n' : ℕ) → Put o n a n' o' → Writing o₀ from all o' n' rest'
+  writing_next a rest' e o' n' q =
+      let l = ap length e ∙ length-append a rest' in
+      let r = w.room in
+      let j = q.behind in
+      let f = putting_next o₀ all o rest from n w.putting a rest' o' n' e (writing_room a rest' e) q in
+      let i = f.long in
+      let k = w.putting.long in
+      record { putting = f; room = omega arith }
+
+  pub writing_done : rest ≡ [] → Put o₀ from all n o
+  writing_done e = putting_done o₀ all o rest from n w.putting e
+
+-- ---- a list gone over from place i on
+pub drop_step : {A : Type 0} (xs : List A) (i : ℕ) (d : A) → i < length xs → drop i xs ≡ get_or xs i d ∷ drop (i + 1) xs
+drop_step xs i d h = rw add-one (drop-cons xs i d h)

@@ -1,50 +1,55 @@
 -- Laws of an A-ASSOCIATE-RQ and -AC as they are written: the parts, the length, and what the calls answer.
 -- Assumes nothing.
-use Prim.Native.Nat.{ℕ, ◌+◌, ◌%◌, ◌≤◌, ◌<◌}
+use Prim.Native.Nat.{ℕ, ◌+◌, ◌/◌, ◌≤◌, ◌<◌}
 use native.Mathlib.Omega.{arith}
 use mathlib.Core.Bool.{Bool, true, false}
-use mathlib.Core.List.{List, [], ◌∷◌, ◌++◌, map}
+use mathlib.Core.List.{List, [], ◌∷◌, ◌++◌}
 use mathlib.Core.Path.{◌≡◌, refl, ap, ◌∙◌}
 use lib.ListN.{length, get_or, length-append}
 use lib.Dec.{leb}
 use borrow.Author.Rules.{rules}
-use borrow.Author.Tests.{lt-leb, leb-true, leb-false}
+use borrow.Author.Tests.{lt-leb, leb-false}
+use Rattle.std.specs.Simd.{first_chunks}
+use Rattle.laws.proofs.Library.{chunk_records}
 use Rattle.numbers.specs.Refusals.{NOT-REFUSED, SHORT-OUTPUT, LONG-PDU}
-use Rattle.numbers.specs.Lengths.{HEADER, LONGEST, RECORD}
+use Rattle.numbers.specs.Lengths.{HEADER, LONGEST}
 use Rattle.octets.specs.Octets.{four}
 use Rattle.octets.specs.Put.{Placed}
 use Rattle.octets.specs.Private.Put.{Put}
 use Rattle.octets.proofs.PutLaws.{next_room, next_put, placed_next}
-use Rattle.items.specs.Wire.{item_bytes, items_bytes}
+use Rattle.items.specs.Wire.{item_bytes}
 use Rattle.items.proofs.WireLaws.{item_length}
-use Rattle.sheets.specs.Contexts.{Context}
-use Rattle.sheets.specs.Sheet.{contexts_in}
+use Rattle.sheets.specs.Sheet.{records_of, contexts_in, answers_in}
 use Rattle.user_items.specs.Sent.{user_bytes}
-use Rattle.writing.specs.Wire.{pdu_bytes, associate_items, associate_bytes, context_body}
+use Rattle.writing.specs.Wire.{pdu_bytes, associate_items, associate_bytes}
 use Rattle.writing.specs.Form.{Wrote, good_form}
-use Rattle.writing_associate.specs.Private.ContextItems.{open_bytes, context_bytes, capped}
+use Rattle.writing_associate.specs.Private.ContextItems.{run_items, answer_items, context_bytes, capped}
 use Rattle.writing_associate.specs.Private.Pdu.{Associate, contexts_of, pdu_kind, pdu_of, base, item_part, fixed_part, Fit, Known, Measured}
 use Rattle.writing_associate.specs.Private.UserItems.{UserFit}
+use Rattle.writing_associate.proofs.ContextLaws.{capped_16385}
 use Rattle.writing_associate.proofs.ItemLaws.{part_room, rest_room, both_put, item_room}
 use Rattle.writing.proofs.FormLaws.{wrote_long, wrote_short, wrote_fine}
+
+-- ---- `as_chunks`
+pub sheet_records : (s : List ℕ) (rs : List (List ℕ)) → rs ≡ first_chunks 132 (length s / 132) s → rs ≡ records_of s
+unfolding records_of
+sheet_records s rs e = e ∙ chunk_records 132 (length s / 132) s
 
 -- ---- `pdu_size`
 module _ (f : Associate) where
   pub size_name : Fit f → length f.application ≤ 64
   size_name w = w.name_short
 
-  pub size_whole : Fit f → length f.sheet % RECORD ≡ 0
-  size_whole w = w.whole
-
   pub size_over : (u x : ℕ) → LONGEST < 68 + (4 + length f.application) + (4 + u) → LONGEST + 1 ≡ capped (base f u + x)
   unfolding base capped
   size_over u x h = simp (lt-leb (68 + (4 + length f.application) + (4 + u) + x) LONGEST (omega arith))
 
-  pub size_is : (u x n : ℕ) → n ≡ capped (68 + (4 + length f.application) + (4 + u) + x) → n ≡ capped (base f u + x)
+  pub size_is : (u n : ℕ) (rs : List (List ℕ)) → rs ≡ first_chunks 132 (length f.sheet / 132) f.sheet → n ≡ capped (68 + (4 + length f.application) + (4 + u) + length (context_bytes f.answer rs))
+      → n ≡ capped (base f u + length (contexts_of f))
   unfolding base
-  size_is u x n e = e
+  size_is u n rs r e = e ∙ rw (sheet_records f.sheet rs r)
 
-pub ruleset size_laws = (rules, size_name, size_whole, size_over, size_is)
+pub ruleset size_laws = (rules, size_name, size_over, size_is)
 
 -- ---- `put_fixed`
 abbrev fixed_head : ℕ → List ℕ → List ℕ
@@ -77,10 +82,7 @@ module _ (f : Associate) (o : List ℕ) (user at : ℕ) (w : Known f user at (le
   pub known_limit : user ≤ LONGEST
   known_limit = let l = part_is f in let m = w.limit in let e = w.user_size in omega arith
 
-  pub known_whole : length f.sheet % RECORD ≡ 0
-  known_whole = w.whole
-
-  pub known_small : length (contexts_of f) ≤ LONGEST
+  known_small : length (contexts_of f) ≤ LONGEST
   known_small = let l = part_is f in let m = w.limit in omega arith
 
   pub known_name : length f.application < 65536
@@ -97,34 +99,36 @@ module _ (f : Associate) (o : List ℕ) (user at : ℕ) (w : Known f user at (le
     behind_name : e + length (contexts_of f ++ item_bytes 0x50 u) ≤ length o₁
     behind_name = rest_room o (item_bytes 0x10 f.application) (contexts_of f ++ item_bytes 0x50 u) at all_room o₁ e q
 
-    pub contexts_room : e + length (contexts_of f) ≤ length o₁
-    contexts_room = part_room o₁ (contexts_of f) (item_bytes 0x50 u) e behind_name
+    module _ (rs : List (List ℕ)) (r : rs ≡ first_chunks 132 (length f.sheet / 132) f.sheet) where
+      pub records_small : length (context_bytes f.answer rs) ≤ LONGEST
+      records_small = rw (sheet_records f.sheet rs r) known_small
 
-    module _ (o₂ : List ℕ) (b : ℕ) (t : Put o₁ e (contexts_of f) b o₂) where
-      pub user_room : b + 4 + user ≤ length o₂
-      user_room = rw w.user_size (item_room o₂ u b 0x50 (rest_room o₁ (contexts_of f) (item_bytes 0x50 u) e behind_name o₂ b t))
+      pub contexts_room : e + length (context_bytes f.answer rs) ≤ length o₁
+      contexts_room = rw (sheet_records f.sheet rs r) (part_room o₁ (contexts_of f) (item_bytes 0x50 u) e behind_name)
 
-      pub items_put : (o₃ : List ℕ) (g : ℕ) → Put o₂ b (item_bytes 0x50 (user_bytes f.user)) g o₃ → Put o at (item_part f) g o₃
-      unfolding item_part
-      items_put o₃ g z =
-          both_put o (item_bytes 0x10 f.application) (contexts_of f ++ item_bytes 0x50 u) at all_room o₁ e q o₃ g
-          (both_put o₁ (contexts_of f) (item_bytes 0x50 u) e behind_name o₂ b t o₃ g z)
+      module _ (o₂ : List ℕ) (b : ℕ) (t : Put o₁ e (context_bytes f.answer rs) b o₂) where
+        contexts_there : Put o₁ e (contexts_of f) b o₂
+        contexts_there = rw (sheet_records f.sheet rs r) at t
 
-pub ruleset items_laws = (rules, known_user, known_size, known_limit, known_whole, known_small, known_name, name_room, contexts_room, user_room, items_put)
+        pub user_room : b + 4 + user ≤ length o₂
+        user_room = rw w.user_size (item_room o₂ u b 0x50 (rest_room o₁ (contexts_of f) (item_bytes 0x50 u) e behind_name o₂ b contexts_there))
+
+        pub items_put : (o₃ : List ℕ) (g : ℕ) → Put o₂ b (item_bytes 0x50 (user_bytes f.user)) g o₃ → Put o at (item_part f) g o₃
+        unfolding item_part
+        items_put o₃ g z =
+            both_put o (item_bytes 0x10 f.application) (contexts_of f ++ item_bytes 0x50 u) at all_room o₁ e q o₃ g
+            (both_put o₁ (contexts_of f) (item_bytes 0x50 u) e behind_name o₂ b contexts_there o₃ g z)
+
+pub ruleset items_laws = (rules, known_user, known_size, known_limit, known_name, name_room, records_small, contexts_room, user_room, items_put)
 
 -- ---- the PDU is its fixed part and its items
-open_all : (cs : List Context) → open_bytes false cs ≡ items_bytes 0x20 (map context_body cs)
-unfolding open_bytes
-open_all [] = refl
-open_all (c ∷ cs) = refl
-
 pdu_items : (f : Associate) → associate_items (pdu_of f) ≡ item_part f
-unfolding associate_items pdu_of item_part context_bytes
+unfolding associate_items pdu_of item_part context_bytes run_items answer_items contexts_in answers_in
 pdu_items f = by f.answer refl
   where
     by : (k : Bool) → f.answer ≡ k → associate_items (pdu_of f) ≡ item_part f
     by true e = rw e
-    by false e = rw e (rw (open_all (contexts_in f.sheet)))
+    by false e = rw e
 
 pub pdu_parts : (f : Associate) (n : ℕ) → length f.middle ≡ 64 → n ≡ 68 + length (item_part f) → associate_bytes (pdu_of f) ≡ fixed_part (pdu_kind f.answer) n f.middle ++ item_part f
 unfolding associate_bytes pdu_bytes fixed_part pdu_of
@@ -170,7 +174,6 @@ module _ (f : Associate) (o : List ℕ) (n user : ℕ) (w : Measured f n user (l
     pdu_known =
         record {
           user_fit = w.fit.user_fit;
-          whole = w.fit.whole;
           user_size = w.user_size;
           limit = (let z = measured_is in let l = w.limit in omega arith);
           room = next_room o 0 (fixed_part kind n f.middle) (item_part f) o₁ e both_parts q;
@@ -209,14 +212,6 @@ capped_low n x e = go (leb x LONGEST) refl
     go true q = let z : n ≡ x = e ∙ simp q in omega arith
     go false q = let z : n ≡ LONGEST + 1 = e ∙ simp q in let l = leb-false x LONGEST q in omega arith
 
-pub capped_most : (n x : ℕ) → n ≡ capped x → n ≤ LONGEST + 1
-unfolding capped
-capped_most n x e = go (leb x LONGEST) refl
-  where
-    go : (b : Bool) → leb x LONGEST ≡ b → n ≤ LONGEST + 1
-    go true q = let z : n ≡ x = e ∙ simp q in let l = leb-true x LONGEST q in omega arith
-    go false q = let z : n ≡ LONGEST + 1 = e ∙ simp q in omega arith
-
 module _ (f : Associate) (o : List ℕ) (w : Fit f) where
   pub fit_user : UserFit f.user
   fit_user = w.user_fit
@@ -254,4 +249,4 @@ module _ (f : Associate) (o : List ℕ) (w : Fit f) where
           → Wrote (good_form (associate_bytes (pdu_of f))) o (record { refusal = NOT-REFUSED; count = m }) o'
       pdu_fine o' m l q = let x = fits in wrote_fine (good_form w_pdu) o refl (omega arith) o' m (omega arith) q
 
-pub ruleset write_pdu_laws = (rules, capped_most, fit_user, pdu_over, pdu_short, measured, pdu_fine)
+pub ruleset write_pdu_laws = (rules, capped_16385, fit_user, pdu_over, pdu_short, measured, pdu_fine)

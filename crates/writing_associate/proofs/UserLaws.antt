@@ -8,8 +8,9 @@ use mathlib.Core.Path.{◌≡◌, refl, sym, ap, ◌∙◌}
 use lib.ListN.{length, get_or, length-append}
 use lib.Dec.{eqb}
 use borrow.Author.Rules.{rules}
-use borrow.Author.Tests.{eq-eqb, ne_eqb}
+use Rattle.std.specs.Simd.{first_chunks}
 use Rattle.laws.specs.Lists.{empty}
+use Rattle.laws.proofs.Library.{chunk_records}
 use Rattle.numbers.specs.Lengths.{LONGEST}
 use Rattle.octets.specs.Octets.{two, four}
 use Rattle.octets.specs.Put.{Placed}
@@ -17,9 +18,10 @@ use Rattle.octets.specs.Private.Put.{Put}
 use Rattle.octets.proofs.PutLaws.{placed_put, put_nothing, next_room, next_put}
 use Rattle.items.specs.Wire.{item_bytes, sequence}
 use Rattle.items.proofs.WireLaws.{item_length, sequence_append}
-use Rattle.user_items.specs.Sent.{User, count_items, role_items, version_items, sub_items, user_bytes}
+use Rattle.roles.specs.Sheet.{role_records, roles_in}
+use Rattle.user_items.specs.Sent.{User, count_items, role_items as roles_sent, version_items, sub_items, user_bytes}
 use Rattle.writing_associate.specs.Private.ContextItems.{capped}
-use Rattle.writing_associate.specs.Private.RoleItems.{roles_from}
+use Rattle.writing_associate.specs.Private.RoleItems.{role_items}
 use Rattle.writing_associate.specs.Private.UserItems.{count_bytes, version_bytes, behind_51h, UserFit}
 use Rattle.writing_associate.proofs.ItemLaws.{part_room, rest_room, both_put, item_room}
 
@@ -30,21 +32,12 @@ perhaps true t x = refl
 perhaps false t x = append-nil (item_bytes t x)
 
 user_is : (u : User) → user_bytes u ≡ item_bytes 0x51 (four LONGEST) ++ behind_51h u
-unfolding user_bytes sub_items count_items role_items version_items count_bytes roles_from version_bytes
+unfolding user_bytes sub_items count_items roles_sent version_items count_bytes role_items version_bytes roles_in
 user_is u =
     rw
-    (sequence_append (count_items u) (role_items u ++ version_items u), sequence_append (role_items u) (version_items u), perhaps (eqb u.invoked 1 && eqb u.performed 1) 0x53 (two u.invoked ++ two u.performed), perhaps (empty u.version) 0x55 u.version)
+    (sequence_append (count_items u) (roles_sent u ++ version_items u), sequence_append (roles_sent u) (version_items u), perhaps (eqb u.invoked 1 && eqb u.performed 1) 0x53 (two u.invoked ++ two u.performed), perhaps (empty u.version) 0x55 u.version)
 
--- ---- `one_and_one`, `counts_size`, `version_size`
-module _ (i p : ℕ) where
-  pub invoked_other : (i ≡ 1 → ⊥) → false ≡ (eqb i 1 && eqb p 1)
-  invoked_other n = rw (ne_eqb i 1 n)
-
-  pub invoked_one : i ≡ 1 → eqb p 1 ≡ (eqb i 1 && eqb p 1)
-  invoked_one e = rw (eq-eqb i 1 e)
-
-pub ruleset one_laws = (rules, invoked_other, invoked_one)
-
+-- ---- `counts_size`, `version_size`
 module _ (i p : ℕ) (b : Bool) (e : b ≡ (eqb i 1 && eqb p 1)) where
   counts_absent : b ≡ true → count_bytes i p ≡ []
   unfolding count_bytes
@@ -95,16 +88,22 @@ module _ (u : User) (f : UserFit u) where
   pub base_small : (x y : ℕ) → x ≤ 8 → y ≤ 20 → 12 + length u.class + x + y ≤ LONGEST
   base_small x y h l = let k = f.class_short in omega arith
 
-behind_long : (u : User) → length (behind_51h u) ≡ 4 + length u.class + (length (count_bytes u.invoked u.performed) + (length (roles_from u.roles 0) + length (version_bytes u.version)))
+behind_long : (u : User) → length (behind_51h u) ≡ 4 + length u.class + (length (count_bytes u.invoked u.performed) + (length (role_items (role_records u.roles)) + length (version_bytes u.version)))
 behind_long u = simp (length-append, item_length)
 
 user_long : (u : User) → length (user_bytes u) ≡ 8 + length (behind_51h u)
 user_long u = ap length (user_is u) ∙ (let a = length-append (item_bytes 0x51 (four LONGEST)) (behind_51h u) in let i = item_length 0x51 (four LONGEST) in omega arith)
 
-pub user_size : (u : User) (x y n : ℕ) → x ≡ length (count_bytes u.invoked u.performed) → y ≡ length (version_bytes u.version) → n ≡ capped (12 + length u.class + x + y + length (roles_from u.roles 0)) → n ≡ capped (length (user_bytes u))
-user_size u x y n d e g =
+pub roles_are : (s : List ℕ) (rs : List (List ℕ)) → rs ≡ first_chunks 68 (length s / 68) s → rs ≡ role_records s
+unfolding role_records
+roles_are s rs e = e ∙ chunk_records 68 (length s / 68) s
+
+pub user_size : (u : User) (x y n : ℕ) (rs : List (List ℕ)) → x ≡ length (count_bytes u.invoked u.performed) → y ≡ length (version_bytes u.version) → rs ≡ first_chunks 68 (length u.roles / 68) u.roles
+    → n ≡ capped (12 + length u.class + x + y + length (role_items rs)) → n ≡ capped (length (user_bytes u))
+user_size u x y n rs d e f g =
     let a = user_long u in
     let b = behind_long u in
+    let r = ap (λ (l : List (List ℕ)). length (role_items l)) (roles_are u.roles rs f) in
     g ∙ ap capped (omega arith)
 
 pub ruleset user_size_laws = (rules, fit_class, fit_version, base_small, user_size)
@@ -139,7 +138,7 @@ pub ruleset put_version_laws = (rules, version_none, version_room, version_put)
 -- ---- `put_behind_51`
 module _ (o : List ℕ) (at : ℕ) (u : User) (h : at + length (behind_51h u) ≤ length o) where
   abbrev behind_53 : List ℕ
-  behind_53 = roles_from u.roles 0 ++ version_bytes u.version
+  behind_53 = role_items (role_records u.roles) ++ version_bytes u.version
 
   abbrev behind_52 : List ℕ
   behind_52 = count_bytes u.invoked u.performed ++ behind_53
@@ -158,18 +157,22 @@ module _ (o : List ℕ) (at : ℕ) (u : User) (h : at + length (behind_51h u) �
       room_53 : b + length behind_53 ≤ length o₂
       room_53 = rest_room o₁ (count_bytes u.invoked u.performed) behind_53 a room_52 o₂ b t
 
-      pub roles_fit : b + length (roles_from u.roles 0) ≤ length o₂
-      roles_fit = part_room o₂ (roles_from u.roles 0) (version_bytes u.version) b room_53
+      module _ (rs : List (List ℕ)) (f : rs ≡ first_chunks 68 (length u.roles / 68) u.roles) where
+        pub roles_fit : b + length (role_items rs) ≤ length o₂
+        roles_fit = rw (roles_are u.roles rs f) (part_room o₂ (role_items (role_records u.roles)) (version_bytes u.version) b room_53)
 
-      module _ (o₃ : List ℕ) (d : ℕ) (w : Put o₂ b (roles_from u.roles 0) d o₃) where
-        pub version_fit : d + length (version_bytes u.version) ≤ length o₃
-        version_fit = rest_room o₂ (roles_from u.roles 0) (version_bytes u.version) b room_53 o₃ d w
+        module _ (o₃ : List ℕ) (d : ℕ) (w : Put o₂ b (role_items rs) d o₃) where
+          roles_there : Put o₂ b (role_items (role_records u.roles)) d o₃
+          roles_there = rw (roles_are u.roles rs f) at w
 
-        pub behind_put : (o₄ : List ℕ) (g : ℕ) → Put o₃ d (version_bytes u.version) g o₄ → Put o at (behind_51h u) g o₄
-        behind_put o₄ g x =
-            both_put o (item_bytes 0x52 u.class) behind_52 at h o₁ a q o₄ g
-            (both_put o₁ (count_bytes u.invoked u.performed) behind_53 a room_52 o₂ b t o₄ g
-            (both_put o₂ (roles_from u.roles 0) (version_bytes u.version) b room_53 o₃ d w o₄ g x))
+          pub version_fit : d + length (version_bytes u.version) ≤ length o₃
+          version_fit = rest_room o₂ (role_items (role_records u.roles)) (version_bytes u.version) b room_53 o₃ d roles_there
+
+          pub behind_put : (o₄ : List ℕ) (g : ℕ) → Put o₃ d (version_bytes u.version) g o₄ → Put o at (behind_51h u) g o₄
+          behind_put o₄ g x =
+              both_put o (item_bytes 0x52 u.class) behind_52 at h o₁ a q o₄ g
+              (both_put o₁ (count_bytes u.invoked u.performed) behind_53 a room_52 o₂ b t o₄ g
+              (both_put o₂ (role_items (role_records u.roles)) (version_bytes u.version) b room_53 o₃ d roles_there o₄ g x))
 
 pub ruleset behind_laws = (rules, class_item, fit_version, class_room, counts_fit, roles_fit, version_fit, behind_put)
 
@@ -182,14 +185,17 @@ unfolding item_bytes
 head_is u n e = rw (← e, user_is u)
 
 module _ (o : List ℕ) (at n : ℕ) (u : User) (e : n ≡ length (user_bytes u)) (h : at + 4 + n ≤ length o)
-    (o₁ : List ℕ) (a : ℕ) (q : Placed o at (0x50 ∷ 0 ∷ n / 256 ∷ n % 256 ∷ 0x51 ∷ 0 ∷ 0 ∷ 4 ∷ 0 ∷ 0 ∷ 0x40 ∷ 0 ∷ []) a o₁) where
+    (l o₁ : List ℕ) (a : ℕ) (d : l ≡ two n) (q : Placed o at (0x50 ∷ 0 ∷ get_or l 0 0 ∷ get_or l 1 0 ∷ 0x51 ∷ 0 ∷ 0 ∷ 4 ∷ 0 ∷ 0 ∷ 0x40 ∷ 0 ∷ []) a o₁) where
+  placed_head : Placed o at (head n) a o₁
+  placed_head = rw d at q
+
   all_room : at + (length (head n) + length (behind_51h u)) ≤ length o
   all_room = let l = user_long u in omega arith
 
   pub behind_room : a + length (behind_51h u) ≤ length o₁
-  behind_room = next_room o at (head n) (behind_51h u) o₁ a all_room (placed_put o at (head n) q (let l = all_room in omega arith))
+  behind_room = next_room o at (head n) (behind_51h u) o₁ a all_room (placed_put o at (head n) placed_head (let l = all_room in omega arith))
 
   pub user_put : (o₂ : List ℕ) (r : ℕ) → Put o₁ a (behind_51h u) r o₂ → Put o at (item_bytes 0x50 (user_bytes u)) r o₂
-  user_put o₂ r t = rw (head_is u n e) (next_put o at (head n) (behind_51h u) o₁ a all_room (placed_put o at (head n) q (let l = all_room in omega arith)) t)
+  user_put o₂ r t = rw (head_is u n e) (next_put o at (head n) (behind_51h u) o₁ a all_room (placed_put o at (head n) placed_head (let l = all_room in omega arith)) t)
 
 pub ruleset put_user_laws = (rules, behind_room, user_put)

@@ -1,70 +1,74 @@
-// The items of a sheet's contexts: measured, and written a record at a time. `answer`: the sheet is an answer, not a proposal.
-ghost use Rattle.std.specs.Prelude.{◌≡◌, false, ◌+◌, ◌%◌, ◌≤◌, ◌<◌, length, drop};
-ghost use Rattle.numbers.specs.Lengths.{LONGEST, RECORD};
+// The items of a sheet's contexts: measured, and written.
+ghost use Rattle.std.specs.Prelude.{◌≡◌, ◌+◌, ◌≤◌, ◌<◌, length};
+ghost use Rattle.numbers.specs.Lengths.{LONGEST};
 ghost use Rattle.octets.specs.Private.Put.{Put};
-ghost use Rattle.sheets.specs.Sheet.{contexts_in};
-ghost use Rattle.sheets.specs.Record.{abstract_at, transfer_at};
-ghost use Rattle.writing_associate.specs.Private.ContextItems.{run_bytes, context_bytes, context_head, lead_bytes, step_bytes, Ready, capped};
+ghost use Rattle.sheets.specs.Sheet.{abstract_of, transfer_of};
+ghost use Rattle.writing_associate.specs.Private.ContextItems.{answers, names_size as names_of, name_items, run_item, run_items, answer_item, answer_items, context_bytes, context_head, capped};
 
 use crate::item::put_item;
+use numbers::RECORD;
 
-fn transfer_len(s: &[u8], at: usize) -> usize
-    ensures { (result ≡ length (transfer_at s.now at)) × (result ≤ 64) }
-{
-    sheets::transfer_at(s, at).len()
+// Whose PDU it is: an RQ proposes contexts, an AC answers them.
+#[derive(Clone, Copy)]
+pub(crate) enum Side {
+    Request,
+    Accept,
 }
 
-fn abstract_len(s: &[u8], at: usize) -> usize
-    ensures { (result ≡ length (abstract_at s.now at)) × (result ≤ 64) }
+#[tactic(auto, using(sheets::proofs::RecordLaws::transfer_first, crate::proofs::ContextLaws::transfer_64))]
+fn transfer_of(r: &[u8; RECORD]) -> &[u8]
+    ensures { (result.now ≡ transfer_of r.now) × (length result.now ≤ 64) }
 {
-    sheets::abstract_at(s, at).len()
+    sheets::transfer_at(r, 0)
 }
 
-// The bytes that the record at a place adds; `going`: its context's head is there already.
-fn step_size(answer: bool, going: bool, s: &[u8], at: usize) -> usize
-    ensures { (result ≡ length (step_bytes answer going s.now at)) × (result ≤ 144) }
+#[tactic(auto, using(sheets::proofs::RecordLaws::abstract_first, crate::proofs::ContextLaws::abstract_64))]
+fn abstract_of(r: &[u8; RECORD]) -> &[u8]
+    ensures { (result.now ≡ abstract_of r.now) × (length result.now ≤ 64) }
 {
-    let x = transfer_len(s, at);
-    if answer {
-        return 12 + x;
-    }
-    if going {
-        return 4 + x;
-    }
-    16 + abstract_len(s, at) + x
+    sheets::abstract_at(r, 0)
 }
 
-// The PDU-length with the contexts of the sheet, where `base` is the rest of it. Any PDU-length above the limit gives 16,385, so no sum wraps.
-pub(crate) fn measure(answer: bool, s: &[u8], base: usize) -> usize
-    requires { (length s.now % RECORD ≡ 0) × (base ≤ LONGEST) }
-    ensures { result ≡ capped (base + length (context_bytes answer false s.now 0)) }
+// The bytes of the transfer names, each behind a head of so many bytes, and of `base`. Any number above the limit gives 16,385, so no sum wraps.
+fn names_size(rs: &[[u8; RECORD]], head: usize, base: usize) -> usize
+    requires { (head ≤ 12) × (base ≤ LONGEST) }
+    ensures { result ≡ capped (base + names_of head rs.now) }
 {
     let mut n = base;
-    let mut going = false;
-    let mut at = 0;
-    while at < s.len() {
-        n += step_size(answer, going, s, at);
+    for r in rs {
+        n += head + transfer_of(r).len();
         if numbers::LONGEST < n {
             return numbers::LONGEST + 1;
         }
-        going = sheets::goes_on(s, at);
-        at += numbers::RECORD;
     }
     n
 }
 
-// The bytes that the 40H items of the run from a place on take.
-fn run_size(s: &[u8], from: usize) -> usize
-    requires { (from + RECORD ≤ length s.now) × (length (run_bytes (contexts_in (drop from s.now))) ≤ LONGEST) }
-    ensures { (result ≡ length (run_bytes (contexts_in (drop from s.now)))) × (result ≤ LONGEST) }
+// The bytes of a proposal's items and of `base`, so capped.
+fn runs_size(rs: &[[u8; RECORD]], base: usize) -> usize
+    requires { base ≤ LONGEST }
+    ensures { result ≡ capped (base + length (run_items rs.now)) }
 {
-    let mut at = from;
-    let mut n = 4 + transfer_len(s, at);
-    while sheets::goes_on(s, at) {
-        at += numbers::RECORD;
-        n += 4 + transfer_len(s, at);
+    let mut n = base;
+    // A closure, not the function's name: the kit has no contract of another crate's function that is given by name.
+    for run in rs.chunk_by(|r, next| sheets::same_run(r, next)) {
+        n = names_size(run, 4, n) + 12 + abstract_of(&run[0]).len();
+        if numbers::LONGEST < n {
+            return numbers::LONGEST + 1;
+        }
     }
     n
+}
+
+// The PDU-length with the contexts of the records, where `base` is the rest of it, so capped.
+pub(crate) fn measure(side: Side, rs: &[[u8; RECORD]], base: usize) -> usize
+    requires { base ≤ LONGEST }
+    ensures { result ≡ capped (base + length (context_bytes (answers side) rs.now)) }
+{
+    match side {
+        Side::Request => runs_size(rs, base),
+        Side::Accept => names_size(rs, 12, base),
+    }
 }
 
 // A 20H or 21H up to its result, where n bytes follow the length.
@@ -72,47 +76,73 @@ fn put_head(out: &mut [u8], at: usize, kind: u8, n: usize, id: u8, res: u8) -> u
     requires { (at + 8 ≤ length out.old) × (n < 65536) }
     ensures { Put out.old at (context_head kind n id res) result out.new }
 {
-    let head = [kind, 0, (n / 256) as u8, (n % 256) as u8, id, 0, res, 0];
-    octets::put(out, at, &head)
+    let l = octets::two_of(n as u16);
+    octets::put(out, at, &[kind, 0, l[0], l[1], id, 0, res, 0])
 }
 
-// All that stands before the 40H items of the context that the record at a place starts.
-fn put_lead(out: &mut [u8], n: usize, answer: bool, going: bool, s: &[u8], at: usize) -> usize
-    requires { Ready answer going s.now at out.old n }
-    ensures { Put out.old n (lead_bytes answer going s.now at) result out.new }
-{
-    if answer {
-        return put_head(out, n, 0x21, 8 + transfer_len(s, at), s[at], s[at + 1]);
-    }
-    if going {
-        return n;
-    }
-    let a = sheets::abstract_at(s, at);
-    let next = put_head(out, n, 0x20, 8 + a.len() + run_size(s, at), s[at], 0);
-    put_item(out, next, 0x30, a)
-}
-
-// What the record at a place adds.
-fn put_step(out: &mut [u8], n: usize, answer: bool, going: bool, s: &[u8], at: usize) -> usize
-    requires { Ready answer going s.now at out.old n }
-    ensures { Put out.old n (step_bytes answer going s.now at) result out.new }
-{
-    let e = put_lead(out, n, answer, going, s, at);
-    put_item(out, e, 0x40, sheets::transfer_at(s, at))
-}
-
-// The items of the sheet's contexts.
-pub(crate) fn put_contexts(out: &mut [u8], from: usize, answer: bool, s: &[u8]) -> usize
-    requires { (length s.now % RECORD ≡ 0) × (from + length (context_bytes answer false s.now 0) ≤ length out.old) × (length (context_bytes answer false s.now 0) ≤ LONGEST) }
-    ensures { Put out.old from (context_bytes answer false s.now 0) result out.new }
+// The 40H items of the records.
+fn put_names(out: &mut [u8], from: usize, rs: &[[u8; RECORD]]) -> usize
+    requires { from + length (name_items rs.now) ≤ length out.old }
+    ensures { Put out.old from (name_items rs.now) result out.new }
 {
     let mut n = from;
-    let mut going = false;
-    let mut at = 0;
-    while at < s.len() {
-        n = put_step(out, n, answer, going, s, at);
-        going = sheets::goes_on(s, at);
-        at += numbers::RECORD;
+    for r in rs {
+        n = put_item(out, n, 0x40, transfer_of(r));
     }
     n
+}
+
+// The 20H of a run of records.
+fn put_run(out: &mut [u8], at: usize, run: &[[u8; RECORD]]) -> usize
+    requires { (0 < length run.now) × (at + length (run_item run.now) ≤ length out.old) × (length (run_item run.now) ≤ LONGEST) }
+    ensures { Put out.old at (run_item run.now) result out.new }
+{
+    let name = abstract_of(&run[0]);
+    let n = 8 + name.len() + names_size(run, 4, 0);
+    let a = put_head(out, at, 0x20, n, run[0][0], 0);
+    let b = put_item(out, a, 0x30, name);
+    put_names(out, b, run)
+}
+
+fn put_runs(out: &mut [u8], from: usize, rs: &[[u8; RECORD]]) -> usize
+    requires { (from + length (run_items rs.now) ≤ length out.old) × (length (run_items rs.now) ≤ LONGEST) }
+    ensures { Put out.old from (run_items rs.now) result out.new }
+{
+    let mut n = from;
+    for run in rs.chunk_by(|r, next| sheets::same_run(r, next)) {
+        n = put_run(out, n, run);
+    }
+    n
+}
+
+// The 21H of a record.
+fn put_answer(out: &mut [u8], at: usize, r: &[u8; RECORD]) -> usize
+    requires { at + length (answer_item r.now) ≤ length out.old }
+    ensures { Put out.old at (answer_item r.now) result out.new }
+{
+    let name = transfer_of(r);
+    let a = put_head(out, at, 0x21, 8 + name.len(), r[0], r[1]);
+    put_item(out, a, 0x40, name)
+}
+
+fn put_answers(out: &mut [u8], from: usize, rs: &[[u8; RECORD]]) -> usize
+    requires { from + length (answer_items rs.now) ≤ length out.old }
+    ensures { Put out.old from (answer_items rs.now) result out.new }
+{
+    let mut n = from;
+    for r in rs {
+        n = put_answer(out, n, r);
+    }
+    n
+}
+
+// The items of the records' contexts.
+pub(crate) fn put_contexts(out: &mut [u8], from: usize, side: Side, rs: &[[u8; RECORD]]) -> usize
+    requires { (from + length (context_bytes (answers side) rs.now) ≤ length out.old) × (length (context_bytes (answers side) rs.now) ≤ LONGEST) }
+    ensures { Put out.old from (context_bytes (answers side) rs.now) result out.new }
+{
+    match side {
+        Side::Request => put_runs(out, from, rs),
+        Side::Accept => put_answers(out, from, rs),
+    }
 }

@@ -15,6 +15,7 @@ ghost use Rattle.writing.specs.Fields.{rq_good, ac_good};
 ghost use Rattle.writing.specs.Form.{rq_form, ac_form, Wrote, sent};
 ghost use Rattle.writing_associate.specs.Said.{rq_said, ac_said};
 
+use crate::contexts::Side;
 use crate::pdu::{Associate, write_pdu};
 use numbers::Refusal;
 use user_items::User;
@@ -75,7 +76,7 @@ pub fn write_request(fields: Request<'_>, out: &mut [u8]) -> Result<usize, Refus
     }
     let middle = titles_of(fields.called, fields.calling);
     let f = Associate {
-        answer: false,
+        side: Side::Request,
         middle: &middle,
         application: fields.application,
         user: fields.user,
@@ -101,7 +102,7 @@ pub fn write_accept(fields: Accept<'_>, out: &mut [u8]) -> Result<usize, Refusal
         return Err(Refusal::BadContents);
     }
     let f = Associate {
-        answer: true,
+        side: Side::Accept,
         middle: fields.echoed,
         application: fields.application,
         user: fields.user,

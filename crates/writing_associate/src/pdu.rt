@@ -4,19 +4,19 @@ ghost use Rattle.numbers.specs.Lengths.{LONGEST};
 ghost use Rattle.octets.specs.Private.Put.{Put};
 ghost use Rattle.writing.specs.Wire.{associate_bytes};
 ghost use Rattle.writing.specs.Form.{Wrote, sent, good_form};
-ghost use Rattle.writing_associate.specs.Private.ContextItems.{capped};
+ghost use Rattle.writing_associate.specs.Private.ContextItems.{answers, capped};
 ghost use Rattle.writing_associate.specs.Private.Pdu.{associate_said, pdu_kind, pdu_of, contexts_of, base as base_of, item_part, fixed_part, Fit, Known, Measured};
 
-use crate::contexts::{measure, put_contexts};
+use crate::contexts::{Side, measure, put_contexts};
 use crate::item::put_item;
 use crate::user::{put_user, user_size};
 use numbers::{Kind, Refusal};
 use user_items::User;
 
-// An RQ or an AC to be written, with the 64 bytes behind its version. `answer`: it is an AC.
+// An RQ or an AC to be written, with the 64 bytes behind its version.
 #[derive(Clone, Copy)]
 pub(crate) struct Associate<'a> {
-    pub(crate) answer: bool,
+    pub(crate) side: Side,
     pub(crate) middle: &'a [u8],
     pub(crate) application: &'a [u8],
     pub(crate) user: User<'a>,
@@ -32,7 +32,7 @@ fn pdu_size(f: Associate<'_>, user: usize) -> usize
     if numbers::LONGEST < base {
         return numbers::LONGEST + 1;
     }
-    measure(f.answer, f.sheet, base)
+    measure(f.side, f.sheet.as_chunks().0, base)
 }
 
 fn put_fixed(out: &mut [u8], kind: u8, n: usize, middle: &[u8]) -> usize
@@ -51,19 +51,18 @@ fn put_items(out: &mut [u8], at: usize, user: usize, f: Associate<'_>) -> usize
     ensures { Put out.old at (item_part (associate_said f.entry)) result out.new }
 {
     let a = put_item(out, at, 0x10, f.application);
-    let b = put_contexts(out, a, f.answer, f.sheet);
+    let b = put_contexts(out, a, f.side, f.sheet.as_chunks().0);
     put_user(out, b, user, f.user)
 }
 
-fn pdu_kind(answer: bool) -> u8
-    ensures { result ≡ pdu_kind answer }
+fn pdu_kind(side: Side) -> u8
+    ensures { result ≡ pdu_kind (answers side) }
 {
-    let kind = if answer {
-        Kind::AssociateAc
-    } else {
-        Kind::AssociateRq
+    let kind = match side {
+        Side::Request => Kind::AssociateRq,
+        Side::Accept => Kind::AssociateAc,
     };
-    kind as u8
+    kind.type_byte()
 }
 
 // A PDU of n bytes behind its header.
@@ -71,7 +70,7 @@ fn put_pdu(out: &mut [u8], n: usize, user: usize, f: Associate<'_>) -> usize
     requires { Measured (associate_said f) n user (length out.old) }
     ensures { Put out.old 0 (associate_bytes (pdu_of (associate_said f.entry))) result out.new }
 {
-    let a = put_fixed(out, pdu_kind(f.answer), n, f.middle);
+    let a = put_fixed(out, pdu_kind(f.side), n, f.middle);
     put_items(out, a, user, f)
 }
 

@@ -15,29 +15,27 @@ use user_items::User;
 fn one_and_one(invoked: u16, performed: u16) -> bool
     ensures { result ≡ (eqb invoked 1 && eqb performed 1) }
 {
-    if invoked != 1 {
-        return false;
-    }
-    performed == 1
+    invoked == 1 && performed == 1
 }
 
 fn counts_size(invoked: u16, performed: u16) -> usize
     ensures { (result ≡ length (count_bytes invoked performed)) × (result ≤ 8) }
 {
     if one_and_one(invoked, performed) {
-        return 0;
+        0
+    } else {
+        8
     }
-    8
 }
 
 fn version_size(version_name: &[u8]) -> usize
     requires { length version_name.now ≤ 16 }
     ensures { (result ≡ length (version_bytes version_name.now)) × (result ≤ 20) }
 {
-    if version_name.len() == 0 {
-        return 0;
+    match version_name.len() {
+        0 => 0,
+        n => 4 + n,
     }
-    4 + version_name.len()
 }
 
 // The bytes of the sub-items, or 16,385 for any number above the limit.
@@ -47,7 +45,7 @@ pub(crate) fn user_size(user: User<'_>) -> usize
 {
     let counts = counts_size(user.invoked, user.performed);
     let base = 12 + user.class_uid.len() + counts + version_size(user.version_name);
-    roles_size(user.roles, base)
+    roles_size(user.roles.as_chunks().0, base)
 }
 
 fn put_counts(out: &mut [u8], at: usize, invoked: u16, performed: u16) -> usize
@@ -59,18 +57,17 @@ fn put_counts(out: &mut [u8], at: usize, invoked: u16, performed: u16) -> usize
     }
     let i = octets::two_of(invoked);
     let p = octets::two_of(performed);
-    let body = [i[0], i[1], p[0], p[1]];
-    put_item(out, at, 0x53, &body)
+    put_item(out, at, 0x53, &[i[0], i[1], p[0], p[1]])
 }
 
 fn put_version(out: &mut [u8], at: usize, version_name: &[u8]) -> usize
     requires { (at + length (version_bytes version_name.now) ≤ length out.old) × (length version_name.now ≤ 16) }
     ensures { Put out.old at (version_bytes version_name.now) result out.new }
 {
-    if version_name.len() == 0 {
-        return at;
+    match version_name.len() {
+        0 => at,
+        _ => put_item(out, at, 0x55, version_name),
     }
-    put_item(out, at, 0x55, version_name)
 }
 
 // The sub-items behind the 51H, in rising type order.
@@ -80,7 +77,7 @@ fn put_behind_51(out: &mut [u8], at: usize, user: User<'_>) -> usize
 {
     let a = put_item(out, at, 0x52, user.class_uid);
     let b = put_counts(out, a, user.invoked, user.performed);
-    let c = put_roles(out, b, user.roles);
+    let c = put_roles(out, b, user.roles.as_chunks().0);
     put_version(out, c, user.version_name)
 }
 
@@ -89,20 +86,8 @@ pub(crate) fn put_user(out: &mut [u8], at: usize, n: usize, user: User<'_>) -> u
     requires { (UserFit (user_said user)) × (n ≡ length (user_bytes (user_said user))) × (n ≤ LONGEST) × (at + 4 + n ≤ length out.old) }
     ensures { Put out.old at (item_bytes 0x50 (user_bytes (user_said user.entry))) result out.new }
 {
-    let head = [
-        0x50,
-        0,
-        (n / 256) as u8,
-        (n % 256) as u8,
-        0x51,
-        0,
-        0,
-        4,
-        0,
-        0,
-        0x40,
-        0,
-    ];
+    let l = octets::two_of(n as u16);
+    let head = [0x50, 0, l[0], l[1], 0x51, 0, 0, 4, 0, 0, 0x40, 0];
     let a = octets::put(out, at, &head);
     put_behind_51(out, a, user)
 }

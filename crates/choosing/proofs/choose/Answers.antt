@@ -7,9 +7,6 @@ returns-then-not-proposal_ok c = search choose_laws
 pub returns-then-not-site_ok : goal.returns-then-not-site_ok
 returns-then-not-site_ok c = search choose_laws
 
-pub count-n-requires : goal.count-n-requires
-count-n-requires c = search choose_laws
-
 pub returns-then-answer-n : goal.returns-then-answer-n
 returns-then-answer-n c = search choose_laws
 

@@ -1,44 +1,47 @@
--- For the private functions: the items of a sheet's contexts, a record at a time. `answer`: the sheet is an answer, not a proposal.
-use Rattle.std.specs.Prelude.{ℕ, ◌+◌, ◌≤◌, Bool, cond, List, [], ◌∷◌, ◌++◌, map, length, drop, get_or, leb}
-use Rattle.numbers.specs.Lengths.{LONGEST, RECORD}
+-- For the private functions: the items of a sheet's contexts, over its records.
+use Rattle.std.specs.Prelude.{ℕ, ◌+◌, Bool, true, false, cond, List, [], ◌∷◌, ◌++◌, map, length, leb}
+use Rattle.numbers.specs.Lengths.{LONGEST}
 use Rattle.octets.specs.Octets.{two}
 use Rattle.items.specs.Wire.{item_bytes, items_bytes}
-use Rattle.sheets.specs.Contexts.{Context}
-use Rattle.sheets.specs.Sheet.{first_transfers, contexts_in, answers_in}
-use Rattle.sheets.specs.Record.{abstract_at, transfer_at}
+use Rattle.sheets.specs.Sheet.{transfer_of, sheet_runs, answered_of}
+use Rattle.sheets.specs.Private.OneRecord.{run_context}
 use Rattle.writing.specs.Wire.{context_body, answer_body}
+use Rattle.writing_associate.specs.declared.contexts.Side.{Side}
+use Rattle.writing_associate.specs.declared.contexts.Side.TheVariants.{Request, Accept}
 
--- the 40H items of the first context
-abbrev pub run_bytes : List Context → List ℕ
-run_bytes cs = items_bytes 0x40 (first_transfers cs)
+-- the PDU is an AC, which answers
+abbrev pub answers : Side → Bool
+answers Request = false
+answers Accept = true
 
--- the 20H items of contexts; `going`: what stands before the 40H items of the first is there already
-unfoldable pub open_bytes : Bool → List Context → List ℕ
-open_bytes going [] = []
-open_bytes going (c ∷ cs) = cond going (items_bytes 0x40 c.transfers) (item_bytes 0x20 (context_body c)) ++ items_bytes 0x20 (map context_body cs)
+-- ---- of records: the 40Hs, one each; the bytes of their transfer names, each with a head of so many bytes
+unfoldable pub name_items : List (List ℕ) → List ℕ
+name_items rs = items_bytes 0x40 (map transfer_of rs)
 
--- the items from the record at a place on
-unfoldable pub context_bytes : Bool → Bool → List ℕ → ℕ → List ℕ
-context_bytes answer going s at = cond answer (items_bytes 0x21 (map answer_body (answers_in (drop at s)))) (open_bytes going (contexts_in (drop at s)))
+unfoldable pub names_size : ℕ → List (List ℕ) → ℕ
+names_size head [] = 0
+names_size head (r ∷ rs) = head + length (transfer_of r) + names_size head rs
+
+-- ---- a proposal: the 20H of a run of records, and of all runs
+unfoldable pub run_item : List (List ℕ) → List ℕ
+run_item rs = item_bytes 0x20 (context_body (run_context rs))
+
+unfoldable pub run_items : List (List ℕ) → List ℕ
+run_items rs = items_bytes 0x20 (map context_body (sheet_runs rs))
+
+-- ---- an answer: the 21H of a record, and of all
+unfoldable pub answer_item : List ℕ → List ℕ
+answer_item r = item_bytes 0x21 (answer_body (answered_of r))
+
+unfoldable pub answer_items : List (List ℕ) → List ℕ
+answer_items rs = items_bytes 0x21 (map answer_body (map answered_of rs))
+
+unfoldable pub context_bytes : Bool → List (List ℕ) → List ℕ
+context_bytes answer rs = cond answer (answer_items rs) (run_items rs)
 
 -- a 20H or 21H up to its result, where n bytes follow the length
 unfoldable pub context_head : ℕ → ℕ → ℕ → ℕ → List ℕ
 context_head kind n id result = kind ∷ 0 ∷ (two n ++ (id ∷ 0 ∷ result ∷ 0 ∷ []))
-
--- what the record at a place adds: all that stands before the 40H items of the context that it starts, and its own 40H
-unfoldable pub lead_bytes : Bool → Bool → List ℕ → ℕ → List ℕ
-lead_bytes answer going s at =
-    cond answer (context_head 0x21 (8 + length (transfer_at s at)) (get_or s at 0) (get_or s (at + 1) 0))
-    (cond going [] (context_head 0x20 (8 + length (abstract_at s at) + length (run_bytes (contexts_in (drop at s)))) (get_or s at 0) 0 ++ item_bytes 0x30 (abstract_at s at)))
-
-unfoldable pub step_bytes : Bool → Bool → List ℕ → ℕ → List ℕ
-step_bytes answer going s at = lead_bytes answer going s at ++ item_bytes 0x40 (transfer_at s at)
-
--- a record stands at a place, and the items from there on have room in the output and keep the limit
-pub record Ready (answer going : Bool) (s : List ℕ) (at : ℕ) (out : List ℕ) (n : ℕ) : Type 0 where
-  pub here : at + RECORD ≤ length s
-  pub room : n + length (context_bytes answer going s at) ≤ length out
-  pub small : length (context_bytes answer going s at) ≤ LONGEST
 
 -- a PDU-length, or one more than the limit for any above it
 unfoldable pub capped : ℕ → ℕ

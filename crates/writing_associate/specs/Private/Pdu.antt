@@ -1,14 +1,14 @@
 -- For the private functions: an RQ or AC as it is written: its fixed part, and its items. `answer`: it is an AC.
-use Rattle.std.specs.Prelude.{ℕ, ◌+◌, ◌%◌, ◌≤◌, ◌≡◌, Bool, false, cond, List, ◌∷◌, ◌++◌, map, length}
+use Rattle.std.specs.Prelude.{ℕ, ◌+◌, ◌≤◌, ◌≡◌, Bool, cond, List, ◌∷◌, ◌++◌, map, length}
 use Rattle.numbers.specs.Kinds.{ASSOCIATE-RQ, ASSOCIATE-AC}
-use Rattle.numbers.specs.Lengths.{HEADER, LONGEST, RECORD}
+use Rattle.numbers.specs.Lengths.{HEADER, LONGEST}
 use Rattle.octets.specs.Octets.{four}
 use Rattle.items.specs.Wire.{item_bytes}
-use Rattle.sheets.specs.Sheet.{contexts_in, answers_in}
+use Rattle.sheets.specs.Sheet.{records_of, contexts_in, answers_in}
 use Rattle.user_items.specs.Sent.{User, user_said, user_bytes}
 use Rattle.writing.specs.Wire.{AssociatePdu, context_body, answer_body}
 use Rattle.writing_associate.specs.declared.pdu.Associate as given
-use Rattle.writing_associate.specs.Private.ContextItems.{context_bytes}
+use Rattle.writing_associate.specs.Private.ContextItems.{answers, context_bytes}
 use Rattle.writing_associate.specs.Private.UserItems.{UserFit}
 
 -- an RQ or AC to be written
@@ -21,7 +21,7 @@ pub record Associate : Type 0 where
 
 -- as the code has it
 abbrev pub associate_said : given.Associate → Associate
-associate_said f = record { answer = f.answer; middle = f.middle.now; application = f.application.now; user = user_said f.user; sheet = f.sheet.now }
+associate_said f = record { answer = answers f.side; middle = f.middle.now; application = f.application.now; user = user_said f.user; sheet = f.sheet.now }
 
 abbrev pub pdu_kind : Bool → ℕ
 pdu_kind answer = cond answer ASSOCIATE-AC ASSOCIATE-RQ
@@ -39,7 +39,7 @@ pdu_of f =
 
 -- the contexts as they are written
 abbrev pub contexts_of : Associate → List ℕ
-contexts_of f = context_bytes f.answer false f.sheet 0
+contexts_of f = context_bytes f.answer (records_of f.sheet)
 
 -- all of the PDU-length but the contexts: 68, the 10H, and the 50H with a body of so many bytes
 unfoldable pub base : Associate → ℕ → ℕ
@@ -58,12 +58,10 @@ pub record Fit (f : Associate) : Type 0 where
   pub middle_long : length f.middle ≡ 64
   pub name_short : length f.application ≤ 64
   pub user_fit : UserFit f.user
-  pub whole : length f.sheet % RECORD ≡ 0
 
 -- when the items are written from place `at` of an output that has so much space, with the length of the 50H's body
 pub record Known (f : Associate) (user at space : ℕ) : Type 0 where
   pub user_fit : UserFit f.user
-  pub whole : length f.sheet % RECORD ≡ 0
   pub user_size : user ≡ length (user_bytes f.user)
   pub limit : length (item_part f) ≤ LONGEST
   pub room : at + length (item_part f) ≤ space
