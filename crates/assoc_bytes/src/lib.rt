@@ -2,6 +2,5 @@
 #![tactic(auto)]
 
 mod assoc;
-mod low;
 
 pub use assoc::{assoc_of, bytes_of, hand_out};

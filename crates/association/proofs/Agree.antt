@@ -1,6 +1,8 @@
 -- Any two permitted answers agree, for each public function.
 -- Assumes nothing.
+use mathlib.Core.Path.{refl}
 use Rattle.laws.proofs.Agree.{agree, Agrees}
+use Rattle.numbers.proofs.NumberLaws.{answer_once}
 use Rattle.association.proofs.refusals.fresh as fresh
 use Rattle.association.proofs.refusals.dropping as dropping
 use Rattle.association.proofs.refusals.length_field as length-field
@@ -22,7 +24,7 @@ pub length_field_agrees : Agrees 1 length-field.Kinds.ps length-field.Kinds.r le
 length_field_agrees κs args a b x y p q = agree p q
 
 pub record_refusal_agrees : Agrees 1 record-refusal.Kinds.ps record-refusal.Kinds.r record-refusal.Reads.Post
-record_refusal_agrees κs args a b x y p q = agree p q
+record_refusal_agrees κs args a b x y p q = answer_once a b (agree p q) (λ u v e f. refl)
 
 pub refused_agrees : Agrees 0 refused.Kinds.ps refused.Kinds.r refused.Reads.Post
 refused_agrees κs args a b x y p q = agree p q

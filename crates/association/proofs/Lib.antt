@@ -1,6 +1,5 @@
 pub mod RefusalLaws
 pub mod OrderLaws
-pub mod EventLaws
 pub mod PerformingLaws
 pub mod Examples
 pub mod Agree

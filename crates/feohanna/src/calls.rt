@@ -1,4 +1,5 @@
-// Receiving and the local events. Each calls by value on the association of the bytes that it is lent, and hands the answer out.
+// Receiving and the local events. Each calls by value on the association of the bytes that it is lent, and hands the answer out: `hand_out` is what they share, and a function that took the
+// call as a closure would leave each as long. Their rows of parameters are the C interface.
 ghost use Rattle.std.specs.Prelude.{◌≡◌};
 ghost use Rattle.user_items.specs.Sent.{user_of};
 ghost use Rattle.writing.specs.Fields.{rq_of, ac_of, reject_of, items_of};
@@ -7,6 +8,8 @@ ghost use Rattle.association.specs.Calls.{receive_of, local_of};
 ghost use Rattle.assoc_bytes.specs.Handed.{handed, hand_out};
 
 use assoc_bytes::{assoc_of, hand_out};
+use user_items::User;
+use writing_associate::{Accept, Request};
 
 // Bytes were received.
 #[unsafe(no_mangle)]
@@ -20,8 +23,7 @@ pub extern "C" fn feo_raw_receive(
     ensures { handed result answer.new assoc.new gather.new out.new
         ≡ hand_out assoc.old (λ a. receive_of a gather.old piece.now out.old) }
 {
-    let a = assoc_of(*assoc);
-    let r = receiving::receive(a, gather, piece, out);
+    let r = receiving::receive(assoc_of(*assoc), gather, piece, out);
     hand_out(r, assoc, answer)
 }
 
@@ -37,8 +39,7 @@ pub extern "C" fn feo_raw_event(
     ensures { handed result answer.new assoc.new gather.now out.new
         ≡ hand_out assoc.old (λ a. local_of a gather.now out.old (plain event)) }
 {
-    let a = assoc_of(*assoc);
-    let r = requests::event(a, event, gather, out);
+    let r = requests::event(assoc_of(*assoc), event, gather, out);
     hand_out(r, assoc, answer)
 }
 
@@ -62,21 +63,20 @@ pub extern "C" fn feo_raw_confirm(
     ensures { handed result answer.new assoc.new gather.now out.new
         ≡ hand_out assoc.old (λ a. local_of a gather.now out.old (confirm (rq_of called.now calling.now application.now (user_of class_uid.now version_name.now invoked performed roles.now) sheet.now))) }
 {
-    let a = assoc_of(*assoc);
-    let r = requests::confirm(
-        a,
+    let fields = Request {
         called,
         calling,
         application,
-        class_uid,
-        version_name,
-        invoked,
-        performed,
-        roles,
+        user: User {
+            class_uid,
+            version_name,
+            invoked,
+            performed,
+            roles,
+        },
         sheet,
-        gather,
-        out,
-    );
+    };
+    let r = requests::confirm(assoc_of(*assoc), fields, gather, out);
     hand_out(r, assoc, answer)
 }
 
@@ -99,20 +99,19 @@ pub extern "C" fn feo_raw_accept(
     ensures { handed result answer.new assoc.new gather.now out.new
         ≡ hand_out assoc.old (λ a. local_of a gather.now out.old (accept (ac_of echoed.now application.now (user_of class_uid.now version_name.now invoked performed roles.now) sheet.now))) }
 {
-    let a = assoc_of(*assoc);
-    let r = requests::accept(
-        a,
+    let fields = Accept {
         echoed,
         application,
-        class_uid,
-        version_name,
-        invoked,
-        performed,
-        roles,
+        user: User {
+            class_uid,
+            version_name,
+            invoked,
+            performed,
+            roles,
+        },
         sheet,
-        gather,
-        out,
-    );
+    };
+    let r = requests::accept(assoc_of(*assoc), fields, gather, out);
     hand_out(r, assoc, answer)
 }
 
@@ -130,8 +129,7 @@ pub extern "C" fn feo_raw_reject(
     ensures { handed result answer.new assoc.new gather.now out.new
         ≡ hand_out assoc.old (λ a. local_of a gather.now out.old (reject (reject_of res source reason))) }
 {
-    let a = assoc_of(*assoc);
-    let r = requests::reject(a, res, source, reason, gather, out);
+    let r = requests::reject(assoc_of(*assoc), res, source, reason, gather, out);
     hand_out(r, assoc, answer)
 }
 
@@ -147,7 +145,6 @@ pub extern "C" fn feo_raw_send(
     ensures { handed result answer.new assoc.new gather.now out.new
         ≡ hand_out assoc.old (λ a. local_of a gather.now out.old (send (items_of items.now))) }
 {
-    let a = assoc_of(*assoc);
-    let r = requests::send(a, items, gather, out);
+    let r = requests::send(assoc_of(*assoc), items, gather, out);
     hand_out(r, assoc, answer)
 }

@@ -1,4 +1,5 @@
-// The fields of each kind of PDU. Where a read is refused the numbers handed out are 0.
+// The fields of each kind of PDU. Where a read is refused the numbers handed out are 0. A number for each field is the C interface: a function that stored the fields of both an RQ and an AC
+// would have as long a row of them once more.
 ghost use Rattle.std.specs.Prelude.{◌≡◌};
 ghost use Rattle.numbers.specs.Kinds.{ASSOCIATE-RQ, ASSOCIATE-AC};
 ghost use Rattle.numbers.specs.Refusals.{refusal_in};

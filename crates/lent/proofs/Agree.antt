@@ -1,5 +1,5 @@
 -- Any two permitted answers agree, for each public function, and so do the record and the buffers as they are left. The contract is stated here as a fact, `Received` or `Given`, and `.._says` that it is
--- what the checker reads in the source.
+-- what the checker reads in the source: docs/PROMISES.md names the two.
 -- Assumes nothing.
 use Prim.Native.Nat.{ℕ}
 use mathlib.Core.Path.{◌≡◌, refl, ap}

@@ -1,3 +1,2 @@
 mod Feeds
 mod Program
-mod WindowLaws

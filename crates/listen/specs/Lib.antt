@@ -1,2 +1,3 @@
 pub mod Window
+pub mod Host
 pub mod Listen

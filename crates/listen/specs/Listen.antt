@@ -7,7 +7,10 @@ use Rattle.association.specs.Events.{Local, transport_indication, transport_clos
 use Rattle.association.specs.Machine.{Seen}
 use Rattle.association.specs.Calls.{Call, receive_of, local_of}
 use Rattle.demand_3.specs.Calls.{Lent, leaves, machine}
-use Rattle.listen.specs.Window.{most}
+
+-- u64::MAX
+abbrev pub most : ℕ
+most = 18446744073709551615
 
 abbrev pub lent : Assoc → List ℕ → List ℕ → Lent
 lent a g o = record { assoc = a; gather = g; out = o }

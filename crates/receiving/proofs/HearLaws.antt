@@ -7,6 +7,9 @@ use mathlib.Core.List.{List, ◌++◌}
 use native.Mathlib.Omega.{arith}
 use lib.ListN.{length, take}
 use lib.Seq.{take_all, length-take-le}
+use Rattle.numbers.specs.declared.refusals.Refusal.{Refusal}
+use Rattle.numbers.specs.Refusals.{refusal_number}
+use Rattle.numbers.proofs.NumberLaws.{refusal_some}
 use Rattle.numbers.specs.Lengths.{LONGEST, TEN}
 use Rattle.octets.proofs.PutLaws.{put_length}
 use Rattle.framing.specs.Framing.{Frame, frame, Frame.short, Frame.long, Frame.whole}
@@ -25,13 +28,14 @@ use Rattle.receiving.specs.declared.gather.Got.{Got}
 use Rattle.receiving.specs.Private.Gathering.{head_of, used_of, RoomToGather, Gathered}
 use Rattle.receiving.specs.Private.Reactions.{Done, quiet_of}
 
-module _ (a : Assoc) (g o : List ℕ) (num : ℕ) (en : num ≡ receive_refusal a g o) where
-  pub refused_at : (p : List ℕ) (r : Answer) → (num ≡ 0 → ⊥) → r ≡ refused_with num a → call r g o ≡ receive_of a g p o
-  refused_at p r n er = rw (er, en) (sym (receive_refused a g p o (λ z. n (en ∙ z))))
+module _ (a : Assoc) (g o : List ℕ) where
+  pub refused_at : (e : Refusal) → refusal_number e ≡ receive_refusal a g o → (p : List ℕ) (r : Answer) → r ≡ refused_with (refusal_number e) a
+      → call r g o ≡ receive_of a g p o
+  refused_at e q p r er = rw (er, q) (sym (receive_refused a g p o (λ z. refusal_some e (q ∙ z))))
 
-  module _ (zn : num ≡ 0) where
+  module _ (en : 0 ≡ receive_refusal a g o) where
     z : receive_refusal a g o ≡ 0
-    z = sym en ∙ zn
+    z = sym en
 
     O : Open a g o
     O = opened a g o z

@@ -1,4 +1,4 @@
-pub mod FillLaws
+pub mod CopyLaws
 pub mod NewLaws
 pub mod GatherLaws
 pub mod ReceivedLaws

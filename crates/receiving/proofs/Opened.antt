@@ -10,7 +10,9 @@ use lib.ListN.{length, take}
 use lib.Seq.{length-take-le}
 use borrow.Author.Rules.{rules}
 use borrow.Author.Tests.{lt-ltb, le-ltb, ltb-false, leb-true, leb-false, ne_eqb}
-use Rattle.numbers.specs.Refusals.{SHORT-OUTPUT}
+use Rattle.numbers.specs.declared.refusals.Refusal.{Refusal}
+use Rattle.numbers.specs.Refusals.{SHORT-OUTPUT, refusal_number}
+use Rattle.numbers.proofs.NumberLaws.{refusal_some}
 use Rattle.numbers.specs.Lengths.{BUFFER, LONGEST, TEN}
 use Rattle.framing.specs.Framing.{frame, length_field, Frame.short}
 use Rattle.framing.proofs.Framing.{frame_few, frame_part, length_take_field}
@@ -52,16 +54,16 @@ quiet_of c g h e = by (leb 6 c) refl e
     by false q e = let few : c < 6 = leb-false 6 c q in frame_few LONGEST (take c g) (omega (arith, n))
 
 -- ---- `receive_refusal`
-module _ (a : Assoc) (g o : List ℕ) (n : ℕ) (e : n ≡ record_refusal a g BUFFER) where
-  pub receive_record : (n ≡ 0 → ⊥) → n ≡ receive_refusal a g o
-  receive_record h = rw (receive_steps a g o, ← e, ne_eqb n 0 h)
+module _ (a : Assoc) (g o : List ℕ) where
+  pub receive_record : (e : Refusal) → refusal_number e ≡ record_refusal a g BUFFER → refusal_number e ≡ receive_refusal a g o
+  receive_record e q = rw (receive_steps a g o, ← q, ne_eqb (refusal_number e) 0 (refusal_some e))
 
-  module _ (z : n ≡ 0) where
+  module _ (z : 0 ≡ record_refusal a g BUFFER) where
     pub receive_short : length o < TEN → SHORT-OUTPUT ≡ receive_refusal a g o
-    receive_short h = rw (receive_steps a g o, ← e, z, lt-ltb (length o) TEN h)
+    receive_short h = rw (receive_steps a g o, ← z, lt-ltb (length o) TEN h)
 
     pub receive_open : TEN ≤ length o → 0 ≡ receive_refusal a g o
-    receive_open h = rw (receive_steps a g o, ← e, z, le-ltb (length o) TEN h)
+    receive_open h = rw (receive_steps a g o, ← z, le-ltb (length o) TEN h)
 
 pub ruleset receive_tests = (rules, receive_record, receive_short, receive_open)
 

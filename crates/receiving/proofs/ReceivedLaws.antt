@@ -1,24 +1,24 @@
 -- From what the callees answer to what an event does: a law for each function between.
 -- Assumes nothing.
 use Prim.Native.Nat.{ℕ, ◌≤◌}
-use mathlib.Core.Path.{◌≡◌, ap, ◌∙◌}
-use mathlib.Core.Bool.{Bool, true, false, cond, ◌||◌}
+use mathlib.Core.Path.{◌≡◌, ◌∙◌}
+use mathlib.Core.Bool.{Bool, true, false, cond}
 use mathlib.Core.List.{List}
 use native.Mathlib.Omega.{arith}
-use lib.Dec.{eqb}
 use lib.ListN.{length, get_or}
 use borrow.Author.Rules.{rules}
-use borrow.Author.Tests.{eq-eqb, ne_eqb}
+use Rattle.std.specs.Prelude.{Option}
+use Rattle.numbers.specs.declared.kinds.Kind.{Kind}
+use Rattle.numbers.specs.Kinds.{kind_number}
 use Rattle.numbers.specs.Refusals.{NOT-REFUSED}
 use Rattle.numbers.specs.Lengths.{TEN}
 use Rattle.octets.specs.Put.{Placed}
 use Rattle.framing.specs.Framing.{Brought.pdu, Brought.over_length}
 use Rattle.framing.specs.Reference.{Reaction}
-use Rattle.table.specs.ActionNames.{AE-3}
 use Rattle.table.specs.Actions.{shows_of}
 use Rattle.table.specs.EventNames.{INVALID-RECEIVED}
 use Rattle.table.specs.Table.{cell_of}
-use Rattle.judging.specs.Pdu.{kind_of, maximum_of}
+use Rattle.judging.specs.Pdu.{kind_of}
 use Rattle.writing.specs.Ten.{ten_of, ABORT-INVALID}
 use Rattle.writing.proofs.TenLaws.{ten_length, ten_out, ten_count}
 use Rattle.association.specs.declared.Assoc.{Assoc}
@@ -26,33 +26,10 @@ use Rattle.association.specs.declared.Answer.{Answer}
 use Rattle.association.specs.declared.Brings.{Brings}
 use Rattle.association.specs.Record.{Standing, standing}
 use Rattle.association.specs.Events.{event_of_kind, event_of}
-use Rattle.association.specs.Performing.{accepts_at, peer_at, brings, leaving, after, abort_for, ten_by}
+use Rattle.association.specs.Performing.{brings, leaving, after, abort_for, ten_by}
 use Rattle.association.specs.Machine.{Seen, doing, on_event, upper}
 use Rattle.association.proofs.PerformingLaws.{leaves_none}
 use Rattle.receiving.specs.Private.Reactions.{tell_of, Done}
-
-pub kind_event : (s : Standing) (p : List ℕ) (k r : ℕ) → k ≡ kind_of p → r ≡ event_of_kind k → r ≡ event_of s p
-unfolding event_of
-kind_event s p k r e f = f ∙ ap event_of_kind e
-
--- ---- the peer maximum
-module _ (action : ℕ) (accepts : Bool) (x y r : ℕ) where
-  pub taken_3 : action ≡ AE-3 → r ≡ x → r ≡ cond (eqb action AE-3 || accepts) x y
-  taken_3 e f = rw (eq-eqb action AE-3 e) f
-
-  pub taken_6 : (action ≡ AE-3 → ⊥) → accepts ≡ true → r ≡ x → r ≡ cond (eqb action AE-3 || accepts) x y
-  taken_6 e t f = rw (ne_eqb action AE-3 e, t) f
-
-  pub kept : (action ≡ AE-3 → ⊥) → accepts ≡ false → r ≡ y → r ≡ cond (eqb action AE-3 || accepts) x y
-  kept e t f = rw (ne_eqb action AE-3 e, t) f
-
-pub ruleset peer_laws = (rules, taken_3, taken_6, kept)
-
-pub pdu_brings : (action : ℕ) (a : Assoc) (p : List ℕ) (accepts : Bool) (peer : ℕ)
-    → accepts ≡ accepts_at action p → peer ≡ cond (eqb action AE-3 || accepts) (maximum_of p) a.peer_max
-    → ◌≡◌ {A = Brings} (record { accepts = accepts; peer_max = peer; deaf = a.deaf }) (brings action (standing a) (pdu p))
-unfolding peer_at
-pdu_brings action a p accepts peer e f = rw (f, e)
 
 -- ---- what an action does, told and written
 module _ (action : ℕ) (a : Assoc) (b : Brings) (abort ten : ℕ) (et : ten ≡ ten_by action b.accepts abort) (o o' : List ℕ) (s : ℕ) (h : TEN ≤ length o)
@@ -70,11 +47,13 @@ module _ (action : ℕ) (a : Assoc) (b : Brings) (abort ten : ℕ) (et : ten ≡
         out = ten_out ten o o' s P fits ∙ rw et;
       }
 
-  pub told_shown : shows ≡ true → Done x o u n (record { told = record { refusal = NOT-REFUSED; action = action; used = u; sent = s; shown = n }; assoc = next }) o'
-  told_shown e = told n (rw e)
+  pub told_shown : shows ≡ true → (shown : ℕ) → shown ≡ n
+      → Done x o u n (record { told = record { refusal = NOT-REFUSED; action = action; used = u; sent = s; shown = shown }; assoc = next }) o'
+  told_shown f shown e = told shown (rw f e)
 
-  pub told_hidden : shows ≡ false → Done x o u n (record { told = record { refusal = NOT-REFUSED; action = action; used = u; sent = s; shown = 0 }; assoc = next }) o'
-  told_hidden e = told 0 (rw e)
+  pub told_hidden : shows ≡ false → (shown : ℕ) → shown ≡ 0
+      → Done x o u n (record { told = record { refusal = NOT-REFUSED; action = action; used = u; sent = s; shown = shown }; assoc = next }) o'
+  told_hidden f shown e = told shown (rw f e)
 
 -- ---- the two events
 module _ (a : Assoc) (action : ℕ) (o : List ℕ) (u n : ℕ) (r : Answer) (o' : List ℕ) where
@@ -84,10 +63,10 @@ module _ (a : Assoc) (action : ℕ) (o : List ℕ) (u n : ℕ) (r : Answer) (o' 
   unfolding on_event
   long_done ea D = rw ea at D
 
-  pub pdu_done : (p : List ℕ) (event first abort : ℕ) (b : Brings) → event ≡ event_of (standing a) p → action ≡ cell_of event a.state
+  pub pdu_done : (p : List ℕ) (k : Option Kind) (kind event first abort : ℕ) (b : Brings) → kind_number k ≡ kind_of p → kind ≡ kind_number k → event ≡ event_of_kind kind → action ≡ cell_of event a.state
       → b ≡ brings action (standing a) (pdu p) → first ≡ get_or p 0 0 → abort ≡ abort_for event first
       → Done (doing action (standing a) b (ten_of (ten_by action b.accepts abort))) o u n r o' → Done (upper.on_pdu (standing a) p) o u n r o'
-  unfolding on_event
-  pdu_done p event first abort b ev ea eb ef et D = rw (et, ef, eb, ea, ev) at D
+  unfolding on_event event_of
+  pdu_done p k kind event first abort b ek en ev ea eb ef et D = rw (et, ef, eb, ea, ev, en, ek) at D
 
-pub ruleset received_laws = (rules, kind_event, pdu_brings, told_shown, told_hidden, long_done, pdu_done)
+pub ruleset received_laws = (rules, told_shown, told_hidden, long_done, pdu_done)

@@ -1,31 +1,30 @@
 // One call on a piece.
 ghost use Rattle.std.specs.Prelude.{◌≡◌};
+ghost use Rattle.numbers.specs.Refusals.{refusal_in};
 ghost use Rattle.association.specs.Calls.{call, receive_refusal, receive_of};
 ghost use Rattle.receiving.specs.Private.Reactions.{quiet_of};
 
-use crate::gather::Head;
+use crate::gather::{Got, Head};
 use crate::{gather, received};
 use association::{Answer, Assoc, Told};
+use numbers::Refusal;
 
-fn receive_refusal(a: Assoc, gather: &[u8], out: &[u8]) -> u8
-    ensures { result ≡ receive_refusal a gather.now out.now }
+#[tactic(auto, using(crate::proofs::Opened::receive_record, crate::proofs::Opened::receive_short, crate::proofs::Opened::receive_open))]
+fn receive_refusal(a: Assoc, gather: &[u8], out: &[u8]) -> Result<(), Refusal>
+    ensures { refusal_in result ≡ receive_refusal a gather.now out.now }
 {
-    let number = association::record_refusal(a, gather, numbers::BUFFER);
-    if number != numbers::NOT_REFUSED {
-        return number;
-    }
+    association::record_refusal(a, gather, numbers::BUFFER)?;
     if out.len() < numbers::TEN {
-        return numbers::SHORT_OUTPUT;
+        return Err(Refusal::ShortOutput);
     }
-    numbers::NOT_REFUSED
+    Ok(())
 }
 
 // No event: so many bytes are gathered now, and so many were used.
+#[tactic(auto, unfolding(crate::specs::Private::Reactions::quiet_of))]
 fn quiet(a: Assoc, gathered: usize, used: usize) -> Answer
     ensures { result ≡ quiet_of a gathered used }
 {
-    let mut assoc = a;
-    assoc.gathered = gathered;
     Answer {
         told: Told {
             refusal: numbers::NOT_REFUSED,
@@ -34,7 +33,7 @@ fn quiet(a: Assoc, gathered: usize, used: usize) -> Answer
             sent: 0,
             shown: 0,
         },
-        assoc,
+        assoc: Assoc { gathered, ..a },
     }
 }
 
@@ -42,23 +41,17 @@ fn quiet(a: Assoc, gathered: usize, used: usize) -> Answer
 pub fn receive(a: Assoc, gather: &mut [u8], piece: &[u8], out: &mut [u8]) -> Answer
     ensures { call result gather.new out.new ≡ receive_of a gather.old piece.now out.old }
 {
-    let number = receive_refusal(a, gather, out);
-    if number != numbers::NOT_REFUSED {
-        return association::refused(number, a);
+    if let Err(refusal) = receive_refusal(a, gather, out) {
+        return association::refused(refusal.number(), a);
     }
-    let at = a.gathered;
     if association::dropping(a) {
-        return quiet(a, at, piece.len());
+        return quiet(a, a.gathered, piece.len());
     }
-    let got = gather::gather(gather, at, piece);
-    let used = got.used;
-    let head = got.head;
+    let Got { used, head } = gather::gather(gather, a.gathered, piece);
+    let gathered = a.gathered + used;
     match head {
-        Head::Short => quiet(a, at + used, used),
+        Head::Short => quiet(a, gathered, used),
         Head::Long => received::do_long(a, used, out),
-        Head::Whole => {
-            let n = at + used;
-            received::do_pdu(a, &gather[..n], used, out)
-        }
+        Head::Whole => received::do_pdu(a, &gather[..gathered], used, out),
     }
 }

@@ -1,53 +1,34 @@
 // The event that bytes bring, and what its action does.
-ghost use Rattle.std.specs.Prelude.{◌≡◌, cond, ◌||◌, ◌≤◌, length, eqb};
+ghost use Rattle.std.specs.Prelude.{◌≡◌, ◌≤◌, length};
 ghost use Rattle.numbers.specs.Lengths.{TEN};
 ghost use Rattle.framing.specs.Framing.{Brought.pdu as whole};
-ghost use Rattle.judging.specs.Pdu.{maximum_of};
 ghost use Rattle.writing.specs.Ten.{ten_of};
-ghost use Rattle.table.specs.ActionNames.{AE-3};
 ghost use Rattle.association.specs.Record.{standing};
-ghost use Rattle.association.specs.Events.{event_of};
-ghost use Rattle.association.specs.Performing.{accepts_at, brings, ten_by};
+ghost use Rattle.association.specs.Performing.{brings, ten_by};
 ghost use Rattle.association.specs.Machine.{doing, upper};
 ghost use Rattle.receiving.specs.Private.Reactions.{Done};
 
 use association::{Answer, Assoc, Brings, Told};
 use numbers::Kind;
 
-// The event that a whole PDU brings to an association.
-#[tactic(auto, unfolding(association::specs::Events::event_of))]
-fn event_of(a: Assoc, pdu: &[u8]) -> u8
-    ensures { result ≡ event_of (standing a) pdu.now }
-{
-    association::event_of_kind(Kind::number(judging::kind_of(pdu)))
+// An action, with what its event brings, and the A-ABORT that AA-7 and AA-8 send.
+struct Doing {
+    action: u8,
+    brings: Brings,
+    abort: u8,
 }
 
-fn accepts_at(action: u8, pdu: &[u8]) -> bool
-    ensures { result ≡ accepts_at action pdu.now }
-{
-    if action != table::AE_6 {
-        return false;
-    }
-    judging::acceptable(pdu)
-}
-
-fn peer_at(action: u8, accepts: bool, kept: u32, pdu: &[u8]) -> u32
-    ensures { result ≡ cond (eqb action AE-3 || accepts) (maximum_of pdu.now) kept }
-{
-    if action == table::AE_3 {
-        return judging::maximum_of(pdu);
-    }
-    if accepts {
-        return judging::maximum_of(pdu);
-    }
-    kept
-}
-
+// What a whole PDU brings to an association's action.
+#[tactic(auto, unfolding(association::specs::Performing::accepts_at, association::specs::Performing::peer_at))]
 fn brings_pdu(action: u8, a: Assoc, pdu: &[u8]) -> Brings
     ensures { result ≡ brings action (standing a) (whole pdu.now) }
 {
-    let accepts = accepts_at(action, pdu);
-    let peer_max = peer_at(action, accepts, a.peer_max, pdu);
+    let accepts = action == table::AE_6 && judging::acceptable(pdu);
+    let peer_max = if action == table::AE_3 || accepts {
+        judging::maximum_of(pdu)
+    } else {
+        a.peer_max
+    };
     Brings {
         accepts,
         peer_max,
@@ -56,26 +37,23 @@ fn brings_pdu(action: u8, a: Assoc, pdu: &[u8]) -> Brings
 }
 
 // Does an action and tells it: so many bytes were used, with a PDU of `len` bytes.
-fn done(
-    action: u8,
-    a: Assoc,
-    b: Brings,
-    abort: u8,
-    used: usize,
-    len: usize,
-    out: &mut [u8],
-) -> Answer
+fn done(a: Assoc, x: Doing, used: usize, len: usize, out: &mut [u8]) -> Answer
     requires { TEN ≤ length out.old }
-    ensures { Done (doing action (standing a) b (ten_of (ten_by action b.accepts abort))) out.old used len result out.new }
+    ensures { Done (doing x.action (standing a) x.brings (ten_of (ten_by x.action x.brings.accepts x.abort))) out.old used len result out.new }
 {
-    let ten = association::ten_by(action, b.accepts, abort);
+    let Doing {
+        action,
+        brings,
+        abort,
+    } = x;
+    let ten = association::ten_by(action, brings.accepts, abort);
     let sent = writing::write_ten(ten, out);
-    let shows = table::shows(action, b.accepts);
-    let assoc = association::after(action, a, b, 0);
-    let mut shown = 0;
-    if shows {
-        shown = len;
-    }
+    let shown = if table::shows(action, brings.accepts) {
+        len
+    } else {
+        0
+    };
+    let assoc = association::after(action, a, brings, 0);
     Answer {
         told: Told {
             refusal: numbers::NOT_REFUSED,
@@ -93,13 +71,16 @@ pub(crate) fn do_long(a: Assoc, used: usize, out: &mut [u8]) -> Answer
     requires { TEN ≤ length out.old }
     ensures { Done (upper.on_long (standing a)) out.old used 0 result out.new }
 {
-    let action = table::cell(table::INVALID_RECEIVED, a.state);
-    let b = Brings {
-        accepts: false,
-        peer_max: a.peer_max,
-        deaf: true,
+    let x = Doing {
+        action: table::cell(table::INVALID_RECEIVED, a.state),
+        brings: Brings {
+            accepts: false,
+            peer_max: a.peer_max,
+            deaf: true,
+        },
+        abort: writing::ABORT_INVALID,
     };
-    done(action, a, b, writing::ABORT_INVALID, used, 0, out)
+    done(a, x, used, 0, out)
 }
 
 // A whole PDU, at the last of the bytes used.
@@ -107,9 +88,12 @@ pub(crate) fn do_pdu(a: Assoc, pdu: &[u8], used: usize, out: &mut [u8]) -> Answe
     requires { TEN ≤ length out.old }
     ensures { Done (upper.on_pdu (standing a) pdu.now) out.old used (length pdu.now) result out.new }
 {
-    let event = event_of(a, pdu);
+    let event = association::event_of_kind(Kind::number(judging::kind_of(pdu)));
     let action = table::cell(event, a.state);
-    let b = brings_pdu(action, a, pdu);
-    let abort = association::abort_for(event, octets::byte_at(pdu, 0));
-    done(action, a, b, abort, used, pdu.len(), out)
+    let x = Doing {
+        action,
+        brings: brings_pdu(action, a, pdu),
+        abort: association::abort_for(event, octets::byte_at(pdu, 0)),
+    };
+    done(a, x, used, pdu.len(), out)
 }

@@ -14,33 +14,25 @@ fn local(call: u8, a: Assoc, line: &[u8], w: &Words, gather: &[u8], out: &mut [u
     let third = bytes(line, w, THIRD);
     let one = byte(w, FIRST);
     match call {
-        b'c' => requests::confirm(
-            a,
-            first,
-            second,
-            third,
-            bytes(line, w, CLASS),
-            bytes(line, w, VERSION_NAME),
-            short(w, INVOKED),
-            short(w, PERFORMED),
-            bytes(line, w, ROLES),
-            bytes(line, w, CONTEXTS),
-            gather,
-            out,
-        ),
-        b'a' => requests::accept(
-            a,
-            second,
-            third,
-            bytes(line, w, CLASS),
-            bytes(line, w, VERSION_NAME),
-            short(w, INVOKED),
-            short(w, PERFORMED),
-            bytes(line, w, ROLES),
-            bytes(line, w, CONTEXTS),
-            gather,
-            out,
-        ),
+        b'c' => {
+            let fields = Request {
+                called: first,
+                calling: second,
+                application: third,
+                user: user(line, w),
+                sheet: bytes(line, w, CONTEXTS),
+            };
+            requests::confirm(a, fields, gather, out)
+        }
+        b'a' => {
+            let fields = Accept {
+                echoed: second,
+                application: third,
+                user: user(line, w),
+                sheet: bytes(line, w, CONTEXTS),
+            };
+            requests::accept(a, fields, gather, out)
+        }
         b'j' => requests::reject(a, one, byte(w, SECOND), byte(w, THIRD), gather, out),
         b'd' => requests::send(a, first, gather, out),
         _ => requests::event(a, one, gather, out),

@@ -12,10 +12,10 @@ use Rattle.requests.proofs.send as send
 pub event_agrees : AgreesLent 2 event.Kinds.ps event.Kinds.r event.Reads.Post (λ κs x. x.1.1.1.0.now)
 event_agrees κs args a b x y p q = (ap (λ (c : Call). c.answer) (agree p q), ap (λ (c : Call). c.out) (agree p q))
 
-pub confirm_agrees : AgreesLent 9 confirm.Kinds.ps confirm.Kinds.r confirm.Reads.Post (λ κs x. x.1.1.1.1.1.1.1.1.1.1.1.0.now)
+pub confirm_agrees : AgreesLent 3 confirm.Kinds.ps confirm.Kinds.r confirm.Reads.Post (λ κs x. x.1.1.1.0.now)
 confirm_agrees κs args a b x y p q = (ap (λ (c : Call). c.answer) (agree p q), ap (λ (c : Call). c.out) (agree p q))
 
-pub accept_agrees : AgreesLent 8 accept.Kinds.ps accept.Kinds.r accept.Reads.Post (λ κs x. x.1.1.1.1.1.1.1.1.1.1.0.now)
+pub accept_agrees : AgreesLent 3 accept.Kinds.ps accept.Kinds.r accept.Reads.Post (λ κs x. x.1.1.1.0.now)
 accept_agrees κs args a b x y p q = (ap (λ (c : Call). c.answer) (agree p q), ap (λ (c : Call). c.out) (agree p q))
 
 pub reject_agrees : AgreesLent 2 reject.Kinds.ps reject.Kinds.r reject.Reads.Post (λ κs x. x.1.1.1.1.1.0.now)

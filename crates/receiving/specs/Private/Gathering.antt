@@ -1,31 +1,11 @@
 -- For the private functions: what copying a piece behind the bytes gathered leaves.
-use Rattle.std.specs.Prelude.{ℕ, ◌+◌, ◌-◌, ◌≤◌, ◌≡◌, cond, List, ◌++◌, length, take, drop, ltb, leb}
+use Rattle.std.specs.Prelude.{ℕ, ◌+◌, ◌-◌, ◌≤◌, ◌≡◌, List, ◌++◌, length, take}
 use Rattle.numbers.specs.Lengths.{HEADER, LONGEST, BUFFER}
 use Rattle.octets.specs.Put.{put}
 use Rattle.framing.specs.Framing.{Frame, frame, Frame.short, Frame.long, Frame.whole}
 use Rattle.receiving.specs.declared.gather.Head.{Head}
 use Rattle.receiving.specs.declared.gather.Head.TheVariants.{Short, Long, Whole}
 use Rattle.receiving.specs.declared.gather.Got.{Got}
-
--- how many of n bytes are wanted, with `have` there, until there are `need`
-unfoldable pub want_of : ℕ → ℕ → ℕ → ℕ
-want_of have need n = cond (leb need have) 0 (cond (ltb (need - have) n) (need - have) n)
-
--- up to the place that is wanted there are bytes, and there is room for them
-pub record Fills (b : List ℕ) (c from need : ℕ) (p : List ℕ) : Type 0 where
-  pub up : from ≤ want_of c need (length p)
-  pub room : c + want_of c need (length p) ≤ length b
-
--- the bytes of p from place `from` to place r stand in the buffer, each c places further on
-pub record Copied (b : List ℕ) (c from need : ℕ) (p b' : List ℕ) (r : ℕ) : Type 0 where
-  pub to : r ≡ want_of c need (length p)
-  pub room : c + r ≤ length b
-  pub buffer : b' ≡ put b (c + from) (take (r - from) (drop from p))
-
--- a place to cut a copy at: no further than `need`, and no nearer than `have` where that is within it
-pub record Cut (have need r : ℕ) : Type 0 where
-  pub within : r ≤ need
-  pub beyond : have ≤ need → have ≤ r
 
 abbrev pub head_of : Frame → Head
 head_of short = Short

@@ -1,0 +1,6 @@
+-- The call by value, handed out.
+use Rattle.assoc_bytes.proofs.HandedLaws.{handing}
+use Rattle.feohanna.proofs.calls.feo_raw_send.Goals as goal
+
+pub returns : goal.returns
+returns c = search handing
