@@ -30,7 +30,9 @@ fn read(side: Side, pdu: &[u8], sheet: &mut [u8], roles: &mut [u8]) -> Result<As
 {
     let valid = Valid::of(side, pdu)?;
     let n = valid.counts();
-    if sheet.len() / numbers::RECORD < n.records || roles.len() / numbers::ROLE < n.roles {
+    let room = sheet.len() / numbers::RECORD;
+    let role_room = roles.len() / numbers::ROLE;
+    if room < n.records || role_room < n.roles {
         return Err(Refusal::ShortOutput);
     }
     valid.fill(sheet, roles);

@@ -9,7 +9,7 @@ use mathlib.Core.Path.{◌≡◌, refl, sym, ap, subst, ◌∙◌}
 use lib.ListN.{length, drop}
 use lib.Dec.{leb, ltb, eqb}
 use borrow.Author.Rules.{rules}
-use borrow.Author.Tests.{lt-ltb, le-ltb, ltb-false, leb-true, ne_eqb, not-true, not-false}
+use borrow.Author.Tests.{lt-ltb, le-ltb, ltb-false, leb-true, ne_eqb, not-false}
 use Rattle.laws.specs.Lists.{among}
 use Rattle.laws.specs.Refusals.{first_due}
 use Rattle.laws.proofs.Refusals.{not_due}

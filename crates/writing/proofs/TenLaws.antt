@@ -4,22 +4,20 @@ use Prim.Native.Nat.{ℕ, zero, suc, ◌≤◌, ◌<◌}
 use native.Mathlib.Nat.{zero-add}
 use native.Mathlib.Omega.{arith}
 use mathlib.Core.Bool.{Bool, true, false}
-use mathlib.Core.List.{List, [], ◌∷◌}
+use mathlib.Core.List.{List, []}
 use mathlib.Core.Path.{◌≡◌, refl, sym, ap, ◌∙◌}
 use lib.ListN.{length, get_or-eq_default}
 use lib.Dec.{leb, eqb}
 use borrow.Author.Rules.{rules}
-use borrow.Author.Tests.{eq-eqb, ne_eqb, eqb-true, eqb-false, leb-true, leb-false}
+use borrow.Author.Tests.{eqb-true, eqb-false, leb-true, leb-false}
 use Rattle.laws.proofs.Booleans.{holds}
 use Rattle.laws.proofs.Below.{below}
 use Rattle.numbers.specs.Refusals.{NOT-REFUSED, SHORT-OUTPUT}
 use Rattle.numbers.specs.Lengths.{TEN}
 use Rattle.octets.specs.Put.{front, Placed}
 use Rattle.octets.proofs.PutLaws.{put_none, put_out, put_behind, put_front, placed_put, placed_fits, behind_fits}
-use Rattle.reasons.specs.Values.{abort_ok}
-use Rattle.writing.specs.Fields.{abort_of, abort_good}
 use Rattle.writing.specs.Ten.{NO-TEN, TEN-RELEASE-RP, tens, ten_of}
-use Rattle.writing.specs.Form.{Sent, Wrote, good_form}
+use Rattle.writing.specs.Form.{Wrote, good_form}
 use Rattle.writing.proofs.FormLaws.{wrote_short, wrote_fine}
 
 -- ---- `ten_of`: the other numbers

@@ -1,10 +1,9 @@
 // The ten-byte PDUs.
 ghost use Rattle.std.specs.Prelude.{◌≡◌, [], length, unwrap_or};
-ghost use Rattle.numbers.specs.Kinds.{type_byte};
 ghost use Rattle.numbers.specs.Lengths.{TEN};
 ghost use Rattle.octets.specs.Put.{Placed};
 ghost use Rattle.writing.specs.Fields.{reject_of, abort_of, abort_good};
-ghost use Rattle.writing.specs.Ten.{ten_bytes, ten_of};
+ghost use Rattle.writing.specs.Ten.{ten_of};
 ghost use Rattle.writing.specs.Form.{Wrote, sent, good_form, reject_form, release_rq_form, release_rp_form, abort_form};
 
 use numbers::{Kind, Refusal, TEN};
@@ -26,25 +25,27 @@ pub const TEN_RELEASE_RQ: u8 = 6;
 
 pub const TEN_RELEASE_RP: u8 = 7;
 
-// A PDU-length of 4, a reserved byte, and the three bytes behind it: 0 where the PDU has no such value.
-fn ten_bytes(kind: Kind, res: u8, source: u8, reason: u8) -> [u8; 10]
-    ensures { result ≡ ten_bytes (type_byte kind) res source reason }
-{
-    [kind as u8, 0, 0, 0, 0, 4, 0, res, source, reason]
-}
+// The type bytes of those that have ten.
+const ASSOCIATE_RJ: u8 = Kind::AssociateRj as u8;
+
+const RELEASE_RQ: u8 = Kind::ReleaseRq as u8;
+
+const RELEASE_RP: u8 = Kind::ReleaseRp as u8;
+
+const ABORT: u8 = Kind::Abort as u8;
 
 #[tactic(auto, using(crate::proofs::TenLaws::no_ten), unfolding(crate::specs::Ten::ten_of, crate::specs::Ten::tens))]
 fn ten_of(which: u8) -> Option<[u8; 10]>
     ensures { unwrap_or result [] ≡ ten_of which }
 {
     Some(match which {
-        ABORT_USER => ten_bytes(Kind::Abort, 0, 0, 0),
-        ABORT_UNRECOGNIZED => ten_bytes(Kind::Abort, 0, 2, 1),
-        ABORT_UNEXPECTED => ten_bytes(Kind::Abort, 0, 2, 2),
-        ABORT_INVALID => ten_bytes(Kind::Abort, 0, 2, 6),
-        REJECT_VERSION => ten_bytes(Kind::AssociateRj, 1, 2, 2),
-        TEN_RELEASE_RQ => ten_bytes(Kind::ReleaseRq, 0, 0, 0),
-        TEN_RELEASE_RP => ten_bytes(Kind::ReleaseRp, 0, 0, 0),
+        ABORT_USER => [ABORT, 0, 0, 0, 0, 4, 0, 0, 0, 0],
+        ABORT_UNRECOGNIZED => [ABORT, 0, 0, 0, 0, 4, 0, 0, 2, 1],
+        ABORT_UNEXPECTED => [ABORT, 0, 0, 0, 0, 4, 0, 0, 2, 2],
+        ABORT_INVALID => [ABORT, 0, 0, 0, 0, 4, 0, 0, 2, 6],
+        REJECT_VERSION => [ASSOCIATE_RJ, 0, 0, 0, 0, 4, 0, 1, 2, 2],
+        TEN_RELEASE_RQ => [RELEASE_RQ, 0, 0, 0, 0, 4, 0, 0, 0, 0],
+        TEN_RELEASE_RP => [RELEASE_RP, 0, 0, 0, 0, 4, 0, 0, 0, 0],
         _ => return None,
     })
 }
@@ -86,7 +87,7 @@ pub fn write_reject(res: u8, source: u8, reason: u8, out: &mut [u8]) -> Result<u
     if !reasons::reject_ok(res, source, reason) {
         return Err(Refusal::BadContents);
     }
-    send(ten_bytes(Kind::AssociateRj, res, source, reason), out)
+    send([ASSOCIATE_RJ, 0, 0, 0, 0, 4, 0, res, source, reason], out)
 }
 
 // Whether an ABORT with these values may be sent.
@@ -107,7 +108,7 @@ pub fn write_abort(source: u8, reason: u8, out: &mut [u8]) -> Result<usize, Refu
     if !abort_good(source, reason) {
         return Err(Refusal::BadContents);
     }
-    send(ten_bytes(Kind::Abort, 0, source, reason), out)
+    send([ABORT, 0, 0, 0, 0, 4, 0, 0, source, reason], out)
 }
 
 // Writes an A-RELEASE-RQ to the start of the output.
@@ -115,7 +116,7 @@ pub fn write_abort(source: u8, reason: u8, out: &mut [u8]) -> Result<usize, Refu
 pub fn write_release_request(out: &mut [u8]) -> Result<usize, Refusal>
     ensures { Wrote release_rq_form out.old (sent result) out.new }
 {
-    send(ten_bytes(Kind::ReleaseRq, 0, 0, 0), out)
+    send([RELEASE_RQ, 0, 0, 0, 0, 4, 0, 0, 0, 0], out)
 }
 
 // Writes an A-RELEASE-RP to the start of the output.
@@ -123,5 +124,5 @@ pub fn write_release_request(out: &mut [u8]) -> Result<usize, Refusal>
 pub fn write_release_response(out: &mut [u8]) -> Result<usize, Refusal>
     ensures { Wrote release_rp_form out.old (sent result) out.new }
 {
-    send(ten_bytes(Kind::ReleaseRp, 0, 0, 0), out)
+    send([RELEASE_RP, 0, 0, 0, 0, 4, 0, 0, 0, 0], out)
 }

@@ -50,6 +50,7 @@ fn runs_size(rs: &[[u8; RECORD]], base: usize) -> usize
     ensures { result ≡ capped (base + length (run_items rs.now)) }
 {
     let mut n = base;
+    // A closure, not the function's name: the kit has no contract of another crate's function that is given by name.
     for run in rs.chunk_by(|r, next| sheets::same_run(r, next)) {
         n = names_size(run, 4, n) + 12 + abstract_of(&run[0]).len();
         if numbers::LONGEST < n {

@@ -1,4 +1,4 @@
-// An item put where it has room.
+// An item put where it has room. Each call that puts takes the output and a place and answers the place behind: `Put` says all of it in one clause. A struct of both would hold the output's borrow, and each clause would take it apart again.
 ghost use Rattle.std.specs.Prelude.{◌+◌, ◌≤◌, ◌<◌, length};
 ghost use Rattle.octets.specs.Private.Put.{Put};
 ghost use Rattle.items.specs.Wire.{item_bytes};

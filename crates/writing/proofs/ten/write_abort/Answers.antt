@@ -13,5 +13,4 @@ returns-then-not-abort_good c = search contents_laws
 pub returns : goal.returns
 unfolding abort_form abort_bytes
 returns c =
-    contents_good (abort_form (abort_of c.args.source c.args.reason)) c.args.out.now c.abort_good.result c.abort_good.ensures c.if-not-abort_good.false refl
-    (rw c.ten_bytes.ensures at c.send.ensures)
+    contents_good (abort_form (abort_of c.args.source c.args.reason)) c.args.out.now c.abort_good.result c.abort_good.ensures c.if-not-abort_good.false refl c.send.ensures
