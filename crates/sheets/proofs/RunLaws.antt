@@ -10,7 +10,8 @@ use lib.Seq.{get_or-take, get_or-drop, drop-cons, drop-drop}
 use Rattle.std.proofs.lemmas.List.{drop_all}
 use native.Mathlib.Numerals.{add-one}
 use borrow.Author.Rules.{rules}
-use borrow.Author.Tests.{le-leb, lt-leb, not-true, not-false}
+use lib.Dec.{leb}
+use borrow.Author.Tests.{le-leb, lt-leb, leb-true, not-true, not-false}
 use Rattle.std.specs.List.{IsChunkByPrefix}
 use Rattle.std.specs.Simd.{first_chunks}
 use Rattle.laws.specs.Lists.{distinct}
@@ -84,6 +85,15 @@ module _ (s rest : List ℕ) (at : ℕ) (rs : List (List ℕ)) (e : rest ≡ dro
 pub no_run : (r : List ℕ) → goes_on r [] ≡ true → ⊥
 unfolding goes_on
 no_run r e = absurd (held false e)
+
+-- a record that goes on a run is there
+pub on_there : (s : List ℕ) (at : ℕ) → goes_on_at s at ≡ true → at + 132 + 132 ≤ length s
+unfolding goes_on_at
+on_there s at e = go (leb (at + 132 + 132) (length s)) refl
+  where
+    go : (d : Bool) → leb (at + 132 + 132) (length s) ≡ d → at + 132 + 132 ≤ length s
+    go true q = leb-true _ _ q
+    go false q = absurd (held false (simp q at e))
 
 -- ---- records one behind the other as `same_run` holds: a run, and its context is the first
 run_on : (r : List ℕ) (c : Context) (cs : List Context) → goes_on r (c ∷ cs) ≡ true
