@@ -16,7 +16,7 @@ pub(crate) struct Window {
     ghost within: { end ≤ length piece },
 }
 
-// How many bytes of a piece a read brings. One that fails ends the input.
+// How many bytes of a piece a read brings. One that fails ends the input. replay has this line too: two programs, and no library between them.
 fn brought(input: &mut impl Read, piece: &mut [u8]) -> usize
     ensures { result ≤ length piece.new }
 {

@@ -47,7 +47,7 @@ pub fn be32_at(s: &[u8], at: usize) -> u32
     u32::from_be_bytes(bytes_at::<4>(s, at))
 }
 
-// A number as its two bytes.
+// A number as its two bytes. This and the next are one call of the library each, and share nothing else.
 pub fn two_of(n: u16) -> [u8; 2]
     ensures { result ≡ two n }
 {

@@ -15,7 +15,7 @@ pub fn uid_in(b: &[u8]) -> &[u8]
     &b[2..end]
 }
 
-// Whether b is a version name: 1 to 16 bytes that a title may have.
+// Whether b is a version name: 1 to 16 bytes that a title may have. Titles test the same of a byte: one line there, one here.
 #[tactic(auto, using(crate::proofs::BodyLaws::version_not))]
 pub(crate) fn version_ok(b: &[u8]) -> bool
     ensures { result ≡ version_ok b.now }
