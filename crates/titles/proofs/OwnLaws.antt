@@ -15,10 +15,10 @@ use Rattle.laws.proofs.Records.{records_count}
 use Rattle.titles.specs.Title.{title_ok, titles_equal}
 use Rattle.titles.specs.Own.{titles, list_ok, title_refusal, known, title_place, Checked}
 use Rattle.std.specs.List.{list_all, position_or_len}
-use Rattle.std.specs.Prelude.{Option, None, Some, Result, Ok}
+use Rattle.std.specs.Prelude.{Option, None, Some, Result, Ok, Err, ok_or, IsErrAnd}
 use Rattle.numbers.specs.declared.refusals.Refusal.{Refusal}
-use Rattle.numbers.specs.Refusals.{refusal_in}
-use Rattle.numbers.proofs.NumberLaws.{answer_once}
+use Rattle.numbers.specs.Refusals.{refusal_number, refusal_in}
+use Rattle.numbers.proofs.NumberLaws.{refusal_some, answer_once}
 use Rattle.titles.specs.Answer.{known_in, place_in}
 
 -- ---- whether all are good: ts are the titles, and b is what the code finds of them
@@ -55,9 +55,18 @@ pub place_other : (l t : List ℕ) → (length t ≡ 16 → ⊥) → Checked l t
 unfolding title_refusal
 place_other l t n = refused_so l t (simp (ne_eqb _ _ n) (either (not (list_ok l))))
 
-pub place_bad : (l t : List ℕ) → list_ok l ≡ false → Checked l t 4 0 0
+place_bad : (l t : List ℕ) → list_ok l ≡ false → Checked l t 4 0 0
 unfolding title_refusal
 place_bad l t e = refused_so l t (simp e)
+
+-- o is what the code finds of the list, e the refusal of a bad one, and r the answer that carries it on
+pub place_refused : {T : Type 0} (l t : List ℕ) (o : Option T) (e : Refusal) (r : Result (Option ℕ) Refusal) → list_ok l ≡ false → Err e ≡ ok_or o Refusal.BadContents → IsErrAnd r (λ x. x ≡ e)
+    → Checked l t (refusal_in r) (known_in r) (place_in r)
+place_refused l t None e (Err x) f q h =
+    let n : refusal_number x ≡ 4 = ap refusal_number h ∙ ap refusal_in q in
+    rw n (place_bad l t f)
+place_refused l t (Some ts) e r f q h = absurd (refusal_some e (ap refusal_in q))
+place_refused l t None e (Ok x) f q h = absurd h
 
 module _ (l t : List ℕ) (ts : List (List ℕ)) (r : Option ℕ) (m : ts ≡ titles l) (h : length t ≡ 16) (e : list_ok l ≡ true) where
   not_refused : title_refusal l t ≡ 0
