@@ -10,6 +10,8 @@ use Rattle.titles.proofs.own.titles.Goals as goal
 
 pub returns : goal.returns
 returns c =
-    let t : c.as_chunks.result.0.now ≡ titles c.args.own.now = c.as_chunks.ensures.front ∙ chunk_records 16 (length c.args.own.now / 16) c.args.own.now in
-    (t, list_taken c.args.own.now _ c.all.result (search rules) t (search rules)
-        (all_from_yields_List title_ok _ _ _ c.all.ensures.ran (YieldsList-from_slice _ c.iter.ensures.rest) (λ x b q k. search rules)) (search rules))
+    let t : c.as_chunks.result.0.now ≡ titles c.args.own.now = c.as_chunks.ensures.front ∙ chunk_records 16 (length c.args.own.now / 16) c.args.own.now in (
+      t,
+      list_taken c.args.own.now _ c.all.result (search rules) t (search rules)
+          (all_from_yields_List title_ok _ _ _ c.all.ensures.ran (YieldsList-from_slice _ c.iter.ensures.rest) (λ x b q k. search rules)) (search rules),
+    )
