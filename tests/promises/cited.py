@@ -36,7 +36,8 @@ def stands(name, file):
         return name in declared_antt(text)
     if file.endswith(".rt"):
         code = re.sub(r"//.*", "", text)
-        escaped = re.escape(name)
+        # a method by its name alone
+        escaped = re.escape(name.split("::")[-1])
         return re.search(RATTLE.format(escaped, escaped, escaped), code, re.M) is not None
     if file.endswith((".h", ".c")):
         text = re.sub(r"/\*.*?\*/|//[^\n]*", "", text, flags=re.S)

@@ -7,7 +7,8 @@ use mathlib.Core.Bool.{Bool, true, false, ◌||◌}
 use mathlib.Core.List.{List, [], ◌∷◌}
 use mathlib.Core.Path.{◌≡◌, refl, sym, ap, ◌∙◌, subst}
 use lib.Arith.{digits_div, digits_mod}
-use lib.Bits.{bit_and, bit_or, and_mask, or_lt}
+use lib.Bits.{bit_and, bit_or, bit_xor, and_mask, or_lt, xor_lt}
+use borrow.Author.Rules.{rules}
 use lib.Pow.{shl_exact}
 use lib.Dec.{eqb}
 use lib.ListN.{length, get_or, set, length-set}
@@ -58,6 +59,29 @@ or_turned true false = refl
 or_turned false true = refl
 or_turned false false = refl
 
+-- a set keeps its form, whatever is put into one of its words
+pub words_set : {w : List ℕ} {i v : ℕ} → Words w → i < 4 → v < 2 ^ 64 → Words (set w i v)
+words_set {w} {i} {v} f h l = record { four = length-set w i v ∙ f.four; fit = fit }
+  where
+    fit : (k : ℕ) → get_or (set w i v) k 0 < 2 ^ 64
+    fit k = go (eqb k i) refl
+      where
+        go : (b : Bool) → eqb k i ≡ b → get_or (set w i v) k 0 < 2 ^ 64
+        go true q = subst (λ (n : ℕ). get_or (set w i v) n 0 < 2 ^ 64) (sym (eqb-true k i q)) (subst (λ (n : ℕ). n < 2 ^ 64) (sym (get_or-set_same w i v 0 (let e = f.four in omega arith))) l)
+        go false q = subst (λ (n : ℕ). n < 2 ^ 64) (sym (get_or-set_other w i k v 0 (eqb-false k i q))) (f.fit k)
+
+-- what is put there fits: a word of the set, with another by `|` or by `^`
+pub word_fits : {w : List ℕ} (k : ℕ) → Words w → get_or w k 0 < 2 ^ 64
+word_fits k f = f.fit k
+
+pub or_fits : (a b : ℕ) → a < 2 ^ 64 → b < 2 ^ 64 → bit_or a b < 2 ^ 64
+or_fits = or_lt 64
+
+pub xor_fits : (a b : ℕ) → a < 2 ^ 64 → b < 2 ^ 64 → bit_xor a b < 2 ^ 64
+xor_fits = xor_lt 64
+
+pub ruleset kept_laws = (rules, words_set, word_fits, or_fits, xor_fits)
+
 module _ (m : List ℕ) (id : ℕ) where
   -- the word of the ID with its bit, and the set with that word
   abbrev bit_on : ℕ
@@ -73,15 +97,6 @@ module _ (m : List ℕ) (id : ℕ) where
     bit_fits : 1 * 2 ^ (id % 64) % 18446744073709551616 < 2 ^ 64
     bit_fits = omega arith
 
-    fits : (k : ℕ) → get_or more k 0 < 2 ^ 64
-    fits k = go (eqb k (id / 64)) refl
-      where
-        go : (b : Bool) → eqb k (id / 64) ≡ b → get_or more k 0 < 2 ^ 64
-        go true q =
-            subst (λ (n : ℕ). get_or more n 0 < 2 ^ 64) (sym (eqb-true k (id / 64) q))
-            (subst (λ (n : ℕ). n < 2 ^ 64) (sym (get_or-set_same m (id / 64) bit_on 0 here)) (or_lt 64 (get_or m (id / 64) 0) _ (w.fit (id / 64)) bit_fits))
-        go false q = subst (λ (n : ℕ). n < 2 ^ 64) (sym (get_or-set_other m (id / 64) k bit_on 0 (eqb-false k (id / 64) q))) (w.fit k)
-
     ids : (n : ℕ) → is_in n more ≡ (eqb n id || is_in n m)
     unfolding is_in
     ids n = go (eqb (n / 64) (id / 64)) refl
@@ -95,16 +110,12 @@ module _ (m : List ℕ) (id : ℕ) where
             rw (get_or-set_other m (id / 64) (n / 64) bit_on 0 (eqb-false _ _ q), ne_eqb n id (λ f. eqb-false _ _ q (ap (λ (k : ℕ). k / 64) f)))
 
     with_is : With m id more
-    with_is = record { words = record { four = length-set m (id / 64) bit_on ∙ w.four; fit = fits }; ids = ids }
+    with_is = record { words = words_set w (omega arith) (or_lt 64 (get_or m (id / 64) 0) _ (w.fit (id / 64)) bit_fits); ids = ids }
 
 -- the same for a set by reference, seen as m, whose words are w
 pub inserted : {m w : List ℕ} (id : ℕ) → w ≡ m → id < 256 → Words w
     → With m id (set w (id / 64) (bit_or (get_or w (id / 64) 0) (1 * 2 ^ (id % 64) % 18446744073709551616)))
 inserted {m} {w} id e s f = subst (λ (n : List ℕ). With n id (more w id)) e (with_is w id s f)
-
-pub words_kept : (w : List ℕ) (id : ℕ) → id < 256 → Words w
-    → Words (set w (id / 64) (bit_or (get_or w (id / 64) 0) (1 * 2 ^ (id % 64) % 18446744073709551616)))
-words_kept w id s f = record { four = length-set w (id / 64) (bit_on w id) ∙ f.four; fit = fits w id s f }
 
 -- ---- two sets with the same IDs are one
 same_word : (a b : List ℕ) → Words a → Words b → ((n : ℕ) → is_in n a ≡ is_in n b) → (k : ℕ) → get_or a k 0 ≡ get_or b k 0

@@ -1,6 +1,5 @@
 pub mod WalkLaws
 pub mod StepLaws
-pub mod ItemLaws
 pub mod HoldLaws
 pub mod RuleLaws
 pub mod WireLaws

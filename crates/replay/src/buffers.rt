@@ -1,5 +1,4 @@
-// Buffers: how long, filled with given bytes, the first bytes of one, and its digest.
-ghost use Rattle.std.specs.Prelude.{◌<◌};
+// Buffers that a call is lent, of any length up to their room. Fixed memory: each has its room from the start.
 
 // The most bytes of a gather buffer or an output, and of a sheet.
 pub(crate) const BUFFER: usize = 17000;
@@ -13,54 +12,42 @@ pub(crate) const IN_OUTPUT: u8 = 0x5A;
 
 pub(crate) const IN_SHEET: u8 = 0xC3;
 
-// Room for a gather buffer or an output, of bytes b.
-pub(crate) fn buffer(b: u8) -> [u8; BUFFER] {
-    [b; BUFFER]
-}
-
-// Byte i of some, b behind them.
-fn byte_or(bytes: &[u8], i: usize, b: u8) -> u8 {
-    if i < bytes.len() { bytes[i] } else { b }
-}
-
-// Sets a buffer to the bytes given, and what is left of it to b.
-pub(crate) fn fill(buffer: &mut [u8], bytes: &[u8], b: u8) {
-    let mut i = 0;
-    while i < buffer.len() {
-        buffer[i] = byte_or(bytes, i, b);
-        i += 1;
-    }
-}
-
-// The first n bytes of a buffer; all of it where it has fewer.
-pub(crate) fn front(buffer: &mut [u8], n: usize) -> &mut [u8] {
-    if n <= buffer.len() {
-        return &mut buffer[..n];
-    }
-    buffer
-}
-
 // A prime below 2^32.
 const MODULUS: u64 = 4294967291;
 
-// A digest with one byte more.
-fn mixed(h: u64, b: u8) -> u64
-    requires { h < 4294967291 }
-    ensures { result < 4294967291 }
-{
-    (h * 257 + b as u64 + 1) % MODULUS
+// The first `len` bytes are lent, all where there are fewer.
+#[derive(Drop)]
+pub(crate) struct Buffer<const ROOM: usize> {
+    bytes: [u8; ROOM],
+    len: usize,
 }
 
-// The digest of the first n bytes of a buffer.
-pub(crate) fn digest(buffer: &[u8], n: usize) -> u64 {
-    let mut h: u64 = 1;
-    let mut i = 0;
-    while i < buffer.len() {
-        if n <= i {
-            break;
+impl<const ROOM: usize> Buffer<ROOM> {
+    // A buffer of bytes b.
+    pub(crate) fn new(b: u8, len: usize) -> Buffer<ROOM> {
+        Buffer {
+            bytes: [b; ROOM],
+            len,
         }
-        h = mixed(h, buffer[i]);
-        i += 1;
     }
-    h
+
+    // Sets the buffer to bytes b, and its front to the bytes given, if it has room for them.
+    pub(crate) fn set(&mut self, b: u8, len: usize, front: &[u8]) {
+        self.len = len;
+        self.bytes.fill(b);
+        if let Some(start) = self.bytes.get_mut(..front.len()) {
+            start.copy_from_slice(front);
+        }
+    }
+
+    pub(crate) fn lend(&mut self) -> &mut [u8] {
+        let len = self.len.min(ROOM);
+        &mut self.bytes[..len]
+    }
+
+    // The digest of what is lent.
+    pub(crate) fn digest(&self) -> u64 {
+        let mixed = |h: u32, b: &u8| ((u64::from(h) * 257 + u64::from(*b) + 1) % MODULUS) as u32;
+        u64::from(self.bytes.iter().take(self.len).fold(1, mixed))
+    }
 }

@@ -1,107 +1,90 @@
-// Lines of standard input, which is read in large pieces.
+// Lines of standard input, which is read in large pieces. Fixed memory: std's BufReader allocates, and its lock on standard input reads a pipe byte by byte.
 use std::io::Read;
 
-// The longest line that is a call, and the room for one: two bytes stand behind it.
-pub(crate) const LINE: usize = 480000;
-
-pub(crate) type Line = [u8; 480002];
-
-const TOO_LONG: usize = usize::MAX;
-
-pub(crate) fn no_line() -> Line {
-    [0; 480002]
-}
+// The longest line that is a call.
+const LINE: usize = 480000;
 
 // How many bytes are read at a time.
 const READ: usize = 65536;
 
-pub(crate) fn no_bytes() -> [u8; READ] {
-    [0; READ]
+// A line without its newline: how many of the bytes it has, or None for a line longer than LINE.
+#[derive(Drop)]
+pub(crate) struct Line {
+    bytes: [u8; LINE],
+    len: Option<usize>,
 }
 
-// How far a line is taken: its length so far, TOO_LONG for one that is longer than LINE; what is left of the bytes read, from `at` to `end`.
-// At the end of the input `end` is 0.
-#[derive(Clone, Copy)]
-pub(crate) struct Taken {
-    pub(crate) len: usize,
-    pub(crate) at: usize,
-    pub(crate) end: usize,
-}
+impl Line {
+    pub(crate) fn new() -> Line {
+        Line {
+            bytes: [0; LINE],
+            len: Some(0),
+        }
+    }
 
-// Whether no line is left.
-pub(crate) fn is_end(t: Taken) -> bool {
-    if t.end == 0 { t.len == 0 } else { false }
-}
+    // Puts bytes behind the line's, and answers how many it then has.
+    fn put(&mut self, bytes: &[u8]) -> Option<usize> {
+        let len = self.len?;
+        let end = len.checked_add(bytes.len())?;
+        self.bytes.get_mut(len..end)?.copy_from_slice(bytes);
+        Some(end)
+    }
 
-// Puts a byte behind the n of a line, and answers how many it then has.
-fn push(line: &mut Line, n: usize, b: u8) -> usize {
-    if n < LINE {
-        line[n] = b;
-        n + 1
-    } else {
-        TOO_LONG
+    // The line, where it is no longer than LINE.
+    pub(crate) fn bytes(&mut self) -> Option<&mut [u8]> {
+        let len = self.len?;
+        self.bytes.get_mut(..len)
     }
 }
 
-// How many bytes a read brings. One that fails ends the input.
-fn brought(input: &mut impl Read, read: &mut [u8; READ]) -> usize {
-    match input.read(read) {
-        Ok(n) => n,
-        Err(_) => 0,
-    }
+// The input, and what was read of it: from `at` to `end` it is not taken yet.
+#[derive(Drop)]
+pub(crate) struct Lines<R: Read + Drop> {
+    input: R,
+    read: [u8; READ],
+    at: usize,
+    end: usize,
 }
 
-// Reads once, as much as the buffer holds, where no byte is left.
-fn filled(input: &mut impl Read, read: &mut [u8; READ], t: Taken) -> Taken {
-    if t.at < t.end {
-        t
-    } else {
-        Taken {
-            len: t.len,
+impl<R: Read + Drop> Lines<R> {
+    pub(crate) fn new(input: R) -> Lines<R> {
+        Lines {
+            input,
+            read: [0; READ],
             at: 0,
-            end: brought(input, read),
+            end: 0,
         }
     }
-}
 
-// The next line, without its newline. At the end of the input it is what is left, which may be nothing.
-pub(crate) fn next_line(
-    input: &mut impl Read,
-    line: &mut Line,
-    read: &mut [u8; READ],
-    last: Taken,
-) -> Taken {
-    let mut t = Taken {
-        len: 0,
-        at: last.at,
-        end: last.end,
-    };
-    let mut turns = u64::MAX;
-    while turns > 0 {
-        let f = filled(input, read, t);
-        t = f;
-        let at = f.at;
-        if f.end <= at {
-            break;
+    // What was read and not taken yet, or what one more read brings where there is nothing left. A read that fails ends the input.
+    fn left(&mut self) -> &[u8] {
+        if self.end <= self.at {
+            self.at = 0;
+            self.end = self.input.read(&mut self.read).unwrap_or(0);
         }
-        if READ <= at {
-            break;
-        }
-        let b = read[at];
-        if b == b'\n' {
-            t = Taken {
-                len: f.len,
-                at: at + 1,
-                end: f.end,
-            };
-            break;
-        }
-        t = Taken {
-            len: push(line, f.len, b),
-            at: at + 1,
-            end: f.end,
-        };
-        turns -= 1;
+        self.read.get(self.at..self.end).unwrap_or(&[])
     }
-    t
+
+    // Takes the next line, and answers whether there was one. The last one's newline may be missing.
+    pub(crate) fn next(&mut self, line: &mut Line) -> bool {
+        line.len = Some(0);
+        for _ in 0..u64::MAX {
+            let left = self.left();
+            if left.is_empty() {
+                return line.len != Some(0);
+            }
+            match left.iter().position(|b| *b == b'\n') {
+                Some(end) => {
+                    line.len = line.put(&left[..end]);
+                    self.at = self.at.saturating_add(end).saturating_add(1);
+                    return true;
+                }
+                None => {
+                    line.len = line.put(left);
+                    self.at = self.end;
+                }
+            }
+        }
+        false
+    }
 }

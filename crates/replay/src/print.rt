@@ -1,56 +1,62 @@
-// What a call answers: numbers, or numbers and bytes, printed as one line, or `?`. A write that fails is passed over.
+// What a call answers, printed as one line, or `?`. A write that fails is passed over.
+use numbers::{NOT_REFUSED, Refusal};
+use std::fmt;
 
-// The answer to a line that is no call.
-pub(crate) fn no_call(rt: &impl Print) {
-    let _ = rt.write_all(b"?\n");
-}
+// Numbers with a space between them.
+#[derive(Clone, Copy)]
+pub(crate) struct Numbers<'a>(pub(crate) &'a [u64]);
 
-// 1 for yes, 0 for no.
-pub(crate) fn mark(b: bool) -> u64 {
-    if b { 1 } else { 0 }
-}
-
-fn decimals(rt: &impl Print, numbers: &[u64]) {
-    let mut i = 0;
-    while i < numbers.len() {
-        if 0 < i {
-            let _ = rt.write_all(b" ");
+impl fmt::Display for Numbers<'_> {
+    fn fmt<W: fmt::Write>(&self, f: &mut fmt::Formatter<W>) -> fmt::Result {
+        if let [first, others @ ..] = self.0 {
+            write!(f, "{first}")?;
+            for n in others {
+                write!(f, " {n}")?;
+            }
         }
-        let _ = rt.print(numbers[i]);
-        i += 1;
+        Ok(())
     }
 }
 
-pub(crate) fn print(rt: &impl Print, numbers: &[u64]) {
-    decimals(rt, numbers);
-    let _ = rt.write_all(b"\n");
-}
+// What a call tells that may be refused: its refusal, 0 for none, then its numbers, each 0 where it is refused.
+#[derive(Clone, Copy)]
+pub(crate) struct Told<const N: usize>(pub(crate) Result<[u64; N], Refusal>);
 
-pub(crate) fn yes_or_no(rt: &impl Print, b: bool) {
-    print(rt, &[mark(b)]);
-}
-
-fn two_digits(rt: &impl Print, b: u8) {
-    let _ = print!(rt; "{b:02x}");
+impl<const N: usize> fmt::Display for Told<N> {
+    fn fmt<W: fmt::Write>(&self, f: &mut fmt::Formatter<W>) -> fmt::Result {
+        match self.0 {
+            Ok(numbers) => write!(f, "{} {}", NOT_REFUSED, Numbers(&numbers)),
+            Err(refusal) => write!(f, "{} {}", refusal.number(), Numbers(&[0; N])),
+        }
+    }
 }
 
 // Bytes in hex, `-` for none.
-fn hex(rt: &impl Print, bytes: &[u8]) {
-    if bytes.len() == 0 {
-        let _ = rt.write_all(b"-");
-        return;
-    }
-    let mut i = 0;
-    while i < bytes.len() {
-        two_digits(rt, bytes[i]);
-        i += 1;
+#[derive(Clone, Copy)]
+pub(crate) struct Hex<'a>(pub(crate) &'a [u8]);
+
+impl fmt::Display for Hex<'_> {
+    fn fmt<W: fmt::Write>(&self, f: &mut fmt::Formatter<W>) -> fmt::Result {
+        if self.0.is_empty() {
+            return f.write_str("-");
+        }
+        for b in self.0 {
+            write!(f, "{b:02x}")?;
+        }
+        Ok(())
     }
 }
 
-// Numbers, and bytes behind them.
-pub(crate) fn print_with(rt: &impl Print, numbers: &[u64], bytes: &[u8]) {
-    decimals(rt, numbers);
-    let _ = rt.write_all(b" ");
-    hex(rt, bytes);
-    let _ = rt.write_all(b"\n");
+pub(crate) fn print(rt: &impl Print, answer: impl fmt::Display + Drop) {
+    let _ = rt.println(answer);
+}
+
+// 1 for yes, 0 for no.
+pub(crate) fn yes_or_no(rt: &impl Print, yes: bool) {
+    print(rt, u8::from(yes));
+}
+
+// The answer to a line that is no call.
+pub(crate) fn no_call(rt: &impl Print) {
+    print(rt, "?");
 }

@@ -1,62 +1,71 @@
 // The calls that write, into an output of OUTLEN bytes.
-use crate::buffers::{IN_OUTPUT, buffer, digest, front};
-use crate::print::print;
-use crate::words::{
-    CLASS, CONTEXTS, FIRST, INVOKED, LENT, PERFORMED, ROLES, SECOND, THIRD, VERSION_NAME, Words,
-    byte, bytes, number, short,
-};
-use numbers::{NOT_REFUSED, Refusal};
-use user_items::User;
-use writing_associate::{Accept, Request};
+use crate::associate::{accept_in, request_in};
+use crate::buffers::{BUFFER, Buffer, IN_OUTPUT};
+use crate::print::Told;
+use crate::words::Words;
+use numbers::Refusal;
 
 // The peer's maximum length for `4`: none.
 const NO_LIMIT: u32 = 0;
 
-fn user<'a>(line: &'a [u8], w: &Words) -> User<'a> {
-    User {
-        class_uid: bytes(line, w, CLASS),
-        version_name: bytes(line, w, VERSION_NAME),
-        invoked: short(w, INVOKED),
-        performed: short(w, PERFORMED),
-        roles: bytes(line, w, ROLES),
-    }
+// OUTLEN: lends an output to what writes, and prints the answer.
+fn write<F>(rt: &impl Print, mut words: Words, put: F) -> Option<()>
+where
+    F: FnOnce(&mut [u8]) -> Result<usize, Refusal>,
+    requires { F.IsAlwaysCallable put }
+{
+    let mut out: Buffer<BUFFER> = Buffer::new(IN_OUTPUT, words.length()?);
+    words.end()?;
+    let count = put(out.lend()).map(|count| [count as u64]);
+    let _ = println!(rt; "{} {}", Told(count), out.digest());
+    Some(())
 }
 
-fn sent(call: u8, line: &[u8], w: &Words, out: &mut [u8]) -> Result<usize, Refusal> {
-    match call {
-        b'1' => {
-            let fields = Request {
-                called: bytes(line, w, FIRST),
-                calling: bytes(line, w, SECOND),
-                application: bytes(line, w, THIRD),
-                user: user(line, w),
-                sheet: bytes(line, w, CONTEXTS),
-            };
-            writing_associate::write_request(fields, out)
-        }
-        b'2' => {
-            let fields = Accept {
-                echoed: bytes(line, w, SECOND),
-                application: bytes(line, w, THIRD),
-                user: user(line, w),
-                sheet: bytes(line, w, CONTEXTS),
-            };
-            writing_associate::write_accept(fields, out)
-        }
-        b'3' => writing::write_reject(byte(w, FIRST), byte(w, SECOND), byte(w, THIRD), out),
-        b'4' => writing::write_data(bytes(line, w, FIRST), NO_LIMIT, out),
-        b'5' => writing::write_release_request(out),
-        b'6' => writing::write_release_response(out),
-        _ => writing::write_abort(byte(w, FIRST), byte(w, SECOND), out),
-    }
+// 1 CALLED CALLING APPLICATION USER SHEET OUTLEN
+pub(crate) fn request(rt: &impl Print, mut words: Words) -> Option<()> {
+    let fields = request_in(&mut words)?;
+    write(rt, words, |out| {
+        writing_associate::write_request(fields, out)
+    })
 }
 
-pub(crate) fn write(rt: &impl Print, call: u8, line: &[u8], w: &Words) {
-    let n = number(w, LENT) as usize;
-    let mut out = buffer(IN_OUTPUT);
-    let (refusal, count) = match sent(call, line, w, front(&mut out, n)) {
-        Ok(count) => (NOT_REFUSED, count),
-        Err(e) => (e.number(), 0),
-    };
-    print(rt, &[refusal as u64, count as u64, digest(&out, n)]);
+// 2 ECHOED APPLICATION USER SHEET OUTLEN
+pub(crate) fn accept(rt: &impl Print, mut words: Words) -> Option<()> {
+    let fields = accept_in(&mut words)?;
+    write(rt, words, |out| {
+        writing_associate::write_accept(fields, out)
+    })
+}
+
+// 3 RESULT SOURCE REASON OUTLEN
+pub(crate) fn reject(rt: &impl Print, mut words: Words) -> Option<()> {
+    let res = words.byte()?;
+    let source = words.byte()?;
+    let reason = words.byte()?;
+    write(rt, words, |out| {
+        writing::write_reject(res, source, reason, out)
+    })
+}
+
+// 4 ITEMS OUTLEN
+pub(crate) fn data(rt: &impl Print, mut words: Words) -> Option<()> {
+    let items = words.bytes()?;
+    write(rt, words, |out| writing::write_data(items, NO_LIMIT, out))
+}
+
+// 5 OUTLEN
+pub(crate) fn release_request(rt: &impl Print, words: Words) -> Option<()> {
+    write(rt, words, |out| writing::write_release_request(out))
+}
+
+// 6 OUTLEN
+pub(crate) fn release_response(rt: &impl Print, words: Words) -> Option<()> {
+    write(rt, words, |out| writing::write_release_response(out))
+}
+
+// 7 SOURCE REASON OUTLEN
+pub(crate) fn abort(rt: &impl Print, mut words: Words) -> Option<()> {
+    let source = words.byte()?;
+    let reason = words.byte()?;
+    write(rt, words, |out| writing::write_abort(source, reason, out))
 }

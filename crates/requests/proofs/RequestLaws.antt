@@ -25,7 +25,7 @@ use Rattle.association.specs.declared.Answer.{Answer}
 use Rattle.association.specs.Record.{standing}
 use Rattle.association.specs.Refusals.{record_tests, record_refusal, refused_with}
 use Rattle.association.specs.Events.{Local, Local.plain, carries}
-use Rattle.association.specs.Performing.{brings_nothing, leaving, after, ten_by}
+use Rattle.association.specs.Performing.{ten_by}
 use Rattle.association.specs.Machine.{doing, local_cell, local_action, plain_form, form_at, on_local}
 use Rattle.association.specs.Calls.{call, unless, local_refusal, local_of}
 use Rattle.requests.specs.Private.Gates.{gate_refusal, done_locally, finish_of}
@@ -100,4 +100,3 @@ module _ (a : Assoc) (g o : List ℕ) (e : Local) where
 pub plain_at : (a : Assoc) (g o : List ℕ) (number n : ℕ) → (n ≡ local_cell number a.state) × (gate_refusal a g (local_cell number a.state) ≡ 0)
     → (w : Result ℕ Refusal) (o' : List ℕ) (r : Answer) → Wrote (plain_form number n) o (sent w) o' → r ≡ finish_of a n w → call r g o' ≡ local_of a g o (plain number)
 plain_at a g o number n x w o' r W er = finish_at a g o (plain number) n x w o' r (rw x.0 at W) er
-

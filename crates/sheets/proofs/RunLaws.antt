@@ -9,9 +9,9 @@ use lib.ListN.{length, take, drop, get_or, length-drop}
 use lib.Seq.{get_or-take, get_or-drop, drop-cons, drop-drop}
 use Rattle.std.proofs.lemmas.List.{drop_all}
 use native.Mathlib.Numerals.{add-one}
-use lib.Dec.{leb}
 use borrow.Author.Rules.{rules}
-use borrow.Author.Tests.{le-leb, lt-leb, leb-true, leb-false, not-true, not-false}
+use lib.Dec.{leb}
+use borrow.Author.Tests.{le-leb, lt-leb, leb-true, not-true, not-false}
 use Rattle.std.specs.List.{IsChunkByPrefix}
 use Rattle.std.specs.Simd.{first_chunks}
 use Rattle.laws.specs.Lists.{distinct}
@@ -54,10 +54,6 @@ pub answers_none : (s : List ℕ) (at : ℕ) → length s < at + 132 → answers
 unfolding answers_in
 answers_none s at h = rw (records_none (drop at s) (omega (arith, length-drop at s)))
 
--- the first two bytes of the record at a place
-pub result_here : (s : List ℕ) (at : ℕ) → get_or (record_at s at) 1 0 ≡ get_or s (at + 1) 0
-result_here s at = get_or-take 132 (drop at s) 1 0 (omega arith) ∙ get_or-drop at s 1 0
-
 pub id_here : (s : List ℕ) (at : ℕ) → get_or (record_at s at) 0 0 ≡ get_or s at 0
 id_here s at = get_or-take 132 (drop at s) 0 0 (omega arith) ∙ (get_or-drop at s 0 0 ∙ ap (λ (n : ℕ). get_or s n 0) (omega arith))
 
@@ -85,22 +81,10 @@ module _ (s rest : List ℕ) (at : ℕ) (rs : List (List ℕ)) (e : rest ≡ dro
       let g = ap length e in
       q ∙ (rw (f, front_two rest (length rest / 132) (omega arith), e, drop-drop 132 at s) (on_two s at (omega (arith, length-drop at s))))
 
-pub ruleset on_laws = (rules, on_short, on_few, on_next)
-
 -- ---- what `goes_on` answers is whether the next context goes on the run
 pub no_run : (r : List ℕ) → goes_on r [] ≡ true → ⊥
 unfolding goes_on
 no_run r e = absurd (held false e)
-
-pub on_here : (s : List ℕ) (at : ℕ) → at + 132 ≤ length s → goes_on_at s at ≡ goes_on (record_at s at) (contexts_in (drop (at + 132) s))
-unfolding goes_on_at goes_on start
-on_here s at h = go (leb (at + 132 + 132) (length s)) refl
-  where
-    go : (b : Bool) → leb (at + 132 + 132) (length s) ≡ b → goes_on_at s at ≡ goes_on (record_at s at) (contexts_in (drop (at + 132) s))
-    go true q =
-        let l : at + 132 + 132 ≤ length s = leb-true _ _ q in
-        rw (contexts_here s (at + 132) l, id_here s at, id_here s (at + 132), ← abstract_here s at h, ← abstract_here s (at + 132) l) (simp q)
-    go false q = rw (contexts_none s (at + 132) (leb-false _ _ q)) (simp q)
 
 -- a record that goes on a run is there
 pub on_there : (s : List ℕ) (at : ℕ) → goes_on_at s at ≡ true → at + 132 + 132 ≤ length s

@@ -10,3 +10,6 @@ returns-in-Ok-None c = search telling
 
 pub returns-in-Err : goal.returns-in-Err
 returns-in-Err c = search telling
+
+pub overflow_cast-place : goal.overflow_cast-place
+overflow_cast-place c = search telling
