@@ -1,70 +1,46 @@
--- Laws of our own titles: the loop is at the j-th of n records of 16 bytes, and each way through the check.
+-- Laws of our own titles: whether all are good, the place of the first, and each way through the check.
 -- Assumes nothing.
-use Prim.Native.Nat.{ℕ, suc, ◌<◌, ◌≤◌, ◌+◌, ◌-◌, ◌*◌, ◌/◌, ◌%◌}
+use Prim.Native.Nat.{ℕ, suc, ◌≤◌, ◌+◌, ◌/◌, ◌%◌}
 use mathlib.Core.Path.{◌≡◌, refl, sym, ap, ◌∙◌}
-use mathlib.Core.Bool.{Bool, true, false, cond, not, and-false}
-use mathlib.Core.List.{List, []}
-use lib.ListN.{length, take, drop}
-use native.Mathlib.Nat.{sub-zero, zero-add, add-zero}
+use mathlib.Core.Bool.{Bool, true, false, cond, not}
+use mathlib.Core.List.{List, [], ◌∷◌}
+use lib.Dec.{ltb}
+use lib.ListN.{length}
 use native.Mathlib.Omega.{arith}
-use borrow.Author.Rules.{rules}
-use borrow.Author.Tests.{eq-eqb, ne_eqb, le-leb, lt-leb, not-true, not-false}
-use Rattle.laws.specs.Lists.{all, first_place, records}
+use borrow.Author.Tests.{eq-eqb, ne_eqb, le-leb, ltb-true, ltb-false}
+use Rattle.laws.specs.Lists.{all, first_place}
 use Rattle.laws.proofs.Found.{first_some, first_none}
-use Rattle.laws.proofs.Records.{records_step, records_over, records_count}
+use Rattle.laws.proofs.Library.{all_list}
+use Rattle.laws.proofs.Records.{records_count}
 use Rattle.titles.specs.Title.{title_ok, titles_equal}
 use Rattle.titles.specs.Own.{titles, list_ok, title_refusal, known, title_place, Checked}
-use Rattle.std.specs.Prelude.{Option, None, Some, Result, Ok}
+use Rattle.std.specs.List.{list_all, position_or_len}
+use Rattle.std.specs.Prelude.{Option, None, Some, Result, Ok, Err, ok_or, IsErrAnd}
 use Rattle.numbers.specs.declared.refusals.Refusal.{Refusal}
-use Rattle.numbers.specs.Refusals.{refusal_in}
-use Rattle.numbers.proofs.NumberLaws.{answer_once}
+use Rattle.numbers.specs.Refusals.{refusal_number, refusal_in}
+use Rattle.numbers.proofs.NumberLaws.{refusal_some, answer_once}
 use Rattle.titles.specs.Answer.{known_in, place_in}
 
--- ---- whether all are good. b is what the code finds at the j-th
-pub all_holds : (p : List ℕ → Bool) (l : List ℕ) → all p (records 16 (length l / 16 - 0) l) ≡ all p (titles l)
-all_holds p l = rw (sub-zero (length l / 16))
+-- ---- whether all are good: ts are the titles, and b is what the code finds of them
+module _ (l : List ℕ) (ts : List (List ℕ)) (b : Bool) (e : length l % 16 ≡ 0) (t : ts ≡ titles l) (h : length ts ≤ 8) (q : b ≡ list_all title_ok ts) where
+  list_is : list_ok l ≡ b
+  unfolding list_ok
+  list_is =
+      let n : length l / 16 ≤ 8 = rw (ap length t, records_count 16 (length l / 16) l) at h in
+      let a : all title_ok (titles l) ≡ b = sym (q ∙ (all_list title_ok ts ∙ ap (all title_ok) t)) in
+      simp (eq-eqb _ _ e, le-leb _ _ n, a)
 
-pub list_odd : (l : List ℕ) → (length l % 16 ≡ 0 → ⊥) → false ≡ list_ok l
-unfolding list_ok
-list_odd l n = simp (ne_eqb _ _ n)
+  pub list_taken : b ≡ true → list_ok l ≡ true
+  list_taken g = list_is ∙ g
 
-pub list_long : (l : List ℕ) → 8 < length l / 16 → false ≡ list_ok l
-unfolding list_ok
-list_long l h = simp (lt-leb _ _ h, and-false)
-
-list_is : (l : List ℕ) → length l % 16 ≡ 0 → length l / 16 ≤ 8 → list_ok l ≡ all title_ok (titles l)
-unfolding list_ok
-list_is l e h = simp (eq-eqb _ _ e, le-leb _ _ h)
-
-module _ (l : List ℕ) (n j : ℕ) (v : all title_ok (records 16 (n - j) (drop (j * 16) l)) ≡ all title_ok (titles l)) where
-  pub list_next : (b : Bool) → j < n → b ≡ title_ok (take (j * 16 + 16 - j * 16) (drop (j * 16) l)) → not b ≡ false → all title_ok (records 16 (n - (j + 1)) (drop ((j + 1) * 16) l)) ≡ all title_ok (titles l)
-  list_next b h e t = simp (records_step 16 n j l h, sym e ∙ not-false b t) at v
-
-  pub list_stop : (b : Bool) → j < n → b ≡ title_ok (take (j * 16 + 16 - j * 16) (drop (j * 16) l)) → not b ≡ true → length l % 16 ≡ 0 → length l / 16 ≤ 8 → false ≡ list_ok l
-  list_stop b h e t o k = (simp (records_step 16 n j l h, sym e ∙ not-true b t) at v) ∙ sym (list_is l o k)
-
-  pub list_end : n ≤ j → length l % 16 ≡ 0 → length l / 16 ≤ 8 → true ≡ list_ok l
-  list_end h o k = (simp (records_over 16 n j (drop (j * 16) l) h) at v) ∙ sym (list_is l o k)
-
-pub ruleset list_laws = (rules, all_holds, list_odd, list_long, list_next, list_stop, list_end)
-
--- ---- which is the first: none of the j before it passes p, and so it is the first of the rest
-pub place_holds : (p : List ℕ → Bool) (l : List ℕ) → 0 + first_place p (records 16 (length l / 16 - 0) l) ≡ first_place p (titles l)
-place_holds p l = rw (sub-zero (length l / 16), zero-add (first_place p (titles l)))
-
-module _ (p : List ℕ → Bool) (l : List ℕ) (n j : ℕ) (v : j + first_place p (records 16 (n - j) (drop (j * 16) l)) ≡ first_place p (titles l)) where
-  pub place_next : (b : Bool) → j < n → b ≡ p (take (j * 16 + 16 - j * 16) (drop (j * 16) l)) → b ≡ false → j + 1 + first_place p (records 16 (n - (j + 1)) (drop ((j + 1) * 16) l)) ≡ first_place p (titles l)
-  place_next b h e t =
-      let w : j + suc (first_place p (records 16 (n - (j + 1)) (drop ((j + 1) * 16) l))) ≡ first_place p (titles l) = simp (records_step 16 n j l h, sym e ∙ t) at v in
-      omega (arith, w)
-
-  pub place_stop : (b : Bool) → j < n → b ≡ p (take (j * 16 + 16 - j * 16) (drop (j * 16) l)) → b ≡ true → j ≡ first_place p (titles l)
-  place_stop b h e t = sym (add-zero j) ∙ (simp (records_step 16 n j l h, sym e ∙ t) at v)
-
-  pub place_end : n ≤ j → j ≡ first_place p (titles l)
-  place_end h = sym (add-zero j) ∙ (simp (records_over 16 n j (drop (j * 16) l) h) at v)
-
-pub ruleset first_laws = (rules, place_holds, place_next, place_stop, place_end)
+-- ---- which is the first: the library's place is ours
+pub position_first : {A : Type 0} (p : A → Bool) (xs : List A) → position_or_len p xs ≡ first_place p xs
+position_first p [] = refl
+position_first p (x ∷ xs) = go (p x) (position_first p xs)
+  where
+    go : (b : Bool) → position_or_len p xs ≡ first_place p xs → cond (not b) (1 + position_or_len p xs) 0 ≡ cond b 0 (suc (first_place p xs))
+    go true e = refl
+    go false e = omega (arith, e)
 
 -- ---- the answer
 refused_so : (l t : List ℕ) → title_refusal l t ≡ 4 → Checked l t 4 0 0
@@ -79,24 +55,38 @@ pub place_other : (l t : List ℕ) → (length t ≡ 16 → ⊥) → Checked l t
 unfolding title_refusal
 place_other l t n = refused_so l t (simp (ne_eqb _ _ n) (either (not (list_ok l))))
 
-pub place_bad : (l t : List ℕ) (b : Bool) → b ≡ list_ok l → not b ≡ true → Checked l t 4 0 0
+place_bad : (l t : List ℕ) → list_ok l ≡ false → Checked l t 4 0 0
 unfolding title_refusal
-place_bad l t b e f = refused_so l t (simp (sym e ∙ not-true b f))
+place_bad l t e = refused_so l t (simp e)
 
-module _ (l t : List ℕ) (b : Bool) (k : ℕ) (e : b ≡ list_ok l) (f : not b ≡ false) (g : k ≡ first_place (titles_equal t) (titles l)) (h : length t ≡ 16) where
+-- o is what the code finds of the list, e the refusal of a bad one, and r the answer that carries it on
+pub place_refused : {T : Type 0} (l t : List ℕ) (o : Option T) (e : Refusal) (r : Result (Option ℕ) Refusal) → list_ok l ≡ false → Err e ≡ ok_or o Refusal.BadContents → IsErrAnd r (λ x. x ≡ e)
+    → Checked l t (refusal_in r) (known_in r) (place_in r)
+place_refused l t None e (Err x) f q h =
+    let n : refusal_number x ≡ 4 = ap refusal_number h ∙ ap refusal_in q in
+    rw n (place_bad l t f)
+place_refused l t (Some ts) e r f q h = absurd (refusal_some e (ap refusal_in q))
+place_refused l t None e (Ok x) f q h = absurd h
+
+module _ (l t : List ℕ) (ts : List (List ℕ)) (r : Option ℕ) (m : ts ≡ titles l) (h : length t ≡ 16) (e : list_ok l ≡ true) where
   not_refused : title_refusal l t ≡ 0
   unfolding title_refusal
-  not_refused = simp (eq-eqb _ _ h, sym e ∙ not-false b f)
+  not_refused = simp (eq-eqb _ _ h, e)
 
-  pub place_found : k < length l / 16 → Checked l t 0 1 k
+  abbrev place : ℕ
+  place = first_place (titles_equal t) (titles l)
+
+  by_place : (b : Bool) → ltb place (length (titles l)) ≡ b → Checked l t 0 (known_in (Ok (cond b (Some place) None))) (place_in (Ok (cond b (Some place) None)))
   unfolding known title_place
-  place_found q = let y = first_some (titles_equal t) [] (titles l) (rw (← g, records_count 16 (length l / 16) l) q) in record { refused = sym not_refused; yes = simp (not_refused, y); place = simp (not_refused, y) g }
+  by_place true q =
+      let y = first_some (titles_equal t) [] (titles l) (ltb-true _ _ q) in
+      record { refused = sym not_refused; yes = simp (not_refused, y); place = simp (not_refused, y) }
+  by_place false q =
+      let y = first_none (titles_equal t) (titles l) (ltb-false _ _ q) in
+      record { refused = sym not_refused; yes = simp (not_refused, y); place = simp (not_refused, y) }
 
-  pub place_none : length l / 16 ≤ k → Checked l t 0 0 0
-  unfolding known title_place
-  place_none q = let y = first_none (titles_equal t) (titles l) (rw (← g, records_count 16 (length l / 16) l) q) in record { refused = sym not_refused; yes = simp (not_refused, y); place = simp (not_refused, y) }
-
-pub ruleset place_laws = (rules, place_other, place_bad, place_found, place_none)
+  pub place_told : r ≡ cond (ltb (position_or_len (titles_equal t) ts) (length ts)) (Some (position_or_len (titles_equal t) ts)) None → Checked l t 0 (known_in (Ok r)) (place_in (Ok r))
+  place_told q = rw (q, m, position_first (titles_equal t) (titles l)) (by_place _ refl)
 
 -- the three numbers determine the answer
 same_found : (x y : Option ℕ) → known_in (Ok x) ≡ known_in (Ok y) → place_in (Ok x) ≡ place_in (Ok y) → x ≡ y

@@ -1,7 +1,5 @@
 // The check of a sought title against our own: which of them it is.
-ghost use Rattle.std.specs.Prelude.{◌≡◌};
-ghost use Rattle.laws.specs.Lists.{first_place};
-ghost use Rattle.titles.specs.Title.{titles_equal};
+ghost use Rattle.std.specs.Prelude.{◌≡◌, true, false, MatchOption};
 ghost use Rattle.titles.specs.Own.{titles, list_ok, Checked};
 ghost use Rattle.titles.specs.Answer.{known_in, place_in};
 ghost use Rattle.numbers.specs.Refusals.{refusal_in};
@@ -10,43 +8,16 @@ use crate::equal::titles_equal;
 use crate::title::title_ok;
 use numbers::{Refusal, TITLE};
 
-// Whether own is 0 to 8 valid titles of 16 bytes.
-fn list_ok(own: &[u8]) -> bool
-    ensures { result ≡ list_ok own.now }
+// Our own titles: 0 to 8 that are valid, and no part of one.
+#[tactic(auto, unfolding(crate::specs::Own::list_ok))]
+fn titles(own: &[u8]) -> Option<&[[u8; TITLE]]>
+    ensures { MatchOption result (list_ok own.now ≡ false) (λ ts. (ts.now ≡ titles own.now) × (list_ok own.now ≡ true)) }
 {
-    if own.len() % TITLE != 0 {
-        return false;
+    let (titles, rest) = own.as_chunks();
+    if !rest.is_empty() || 8 < titles.len() || !titles.iter().all(|t| title_ok(t)) {
+        return None;
     }
-    let n = own.len() / TITLE;
-    if 8 < n {
-        return false;
-    }
-    let mut k = 0;
-    while k < n {
-        let at = k * TITLE;
-        if !title_ok(&own[at..at + TITLE]) {
-            return false;
-        }
-        k += 1;
-    }
-    true
-}
-
-// The place of the first title of own that equals t, or how many titles there are where none does.
-fn first_equal(own: &[u8], t: &[u8]) -> usize
-    ensures { result ≡ first_place (titles_equal t.now) (titles own.now) }
-{
-    let count = own.len() / TITLE;
-    let mut place = 0;
-    while place < count {
-        let at = place * TITLE;
-        let equal = titles_equal(t, &own[at..at + TITLE]);
-        if equal {
-            return place;
-        }
-        place += 1;
-    }
-    place
+    Some(titles)
 }
 
 // The place of the first of our own titles that the sought one is, from 0 to 7; None where it is none of them. The list is tested whole before it is searched.
@@ -56,12 +27,6 @@ pub fn title_place(own: &[u8], sought: &[u8]) -> Result<Option<usize>, Refusal>
     if sought.len() != TITLE {
         return Err(Refusal::BadContents);
     }
-    if !list_ok(own) {
-        return Err(Refusal::BadContents);
-    }
-    let place = first_equal(own, sought);
-    if place < own.len() / TITLE {
-        return Ok(Some(place));
-    }
-    Ok(None)
+    let titles = titles(own).ok_or(Refusal::BadContents)?;
+    Ok(titles.iter().position(|t| titles_equal(sought, t)))
 }

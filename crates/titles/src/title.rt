@@ -1,31 +1,24 @@
 // A title as an RQ carries it.
 ghost use Rattle.std.specs.Prelude.{◌≡◌};
-ghost use Rattle.titles.specs.Title.{title_ok};
+ghost use Rattle.laws.specs.Lists.{all};
+ghost use Rattle.titles.specs.Title.{space, title_byte, title_ok};
+
+fn of_title_bytes(t: &[u8]) -> bool
+    ensures { result ≡ all title_byte t.now }
+{
+    t.iter().all(|b| matches!(*b, 0x20..=0x7E) && *b != 0x5C)
+}
+
+fn blank(t: &[u8]) -> bool
+    ensures { result ≡ all space t.now }
+{
+    t.iter().all(|b| *b == 0x20)
+}
 
 // Whether t may stand as a title in an RQ.
+#[tactic(auto, unfolding(crate::specs::Title::title_ok))]
 pub fn title_ok(t: &[u8]) -> bool
     ensures { result ≡ title_ok t.now }
 {
-    if t.len() != numbers::TITLE {
-        return false;
-    }
-    let mut blank = true;
-    let mut i = 0;
-    while i < t.len() {
-        let b = t[i];
-        if b < 0x20 {
-            return false;
-        }
-        if 0x7E < b {
-            return false;
-        }
-        if b == 0x5C {
-            return false;
-        }
-        if b != 0x20 {
-            blank = false;
-        }
-        i += 1;
-    }
-    !blank
+    t.len() == numbers::TITLE && of_title_bytes(t) && !blank(t)
 }
