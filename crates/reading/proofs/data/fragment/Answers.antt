@@ -4,10 +4,10 @@ use Rattle.reading.proofs.DataLaws.{part_within, part_is, part_start, part_none}
 use Rattle.reading.proofs.data.fragment.Goals as goal
 
 pub overflow_add-end : goal.overflow_add-end
-overflow_add-end c = let w = part_within c.args.pdu.now c.args.number c.in-Ok.pdv.id c.in-Ok.pdv.control c.in-Ok.pdv.start c.in-Ok.pdv.len c.in-Ok.ensures in omega arith
+overflow_add-end c = let w = part_within c.args.pdu.now _ c.in-Ok.pdv.id c.in-Ok.pdv.control c.in-Ok.pdv.start c.in-Ok.pdv.len c.in-Ok.ensures in omega arith
 
 pub slice_bounds-result-end : goal.slice_bounds-result-end
-slice_bounds-result-end c = let w = part_within c.args.pdu.now c.args.number c.in-Ok.pdv.id c.in-Ok.pdv.control c.in-Ok.pdv.start c.in-Ok.pdv.len c.in-Ok.ensures in search rules
+slice_bounds-result-end c = let w = part_within c.args.pdu.now _ c.in-Ok.pdv.id c.in-Ok.pdv.control c.in-Ok.pdv.start c.in-Ok.pdv.len c.in-Ok.ensures in search rules
 
 pub returns-in-Ok : goal.returns-in-Ok
 returns-in-Ok c =
