@@ -13,7 +13,7 @@ pub struct Part {
     pub len: usize,
 }
 
-// The body of the first item of type t: u stands from place `from` on.
+// The body of the first item of type t: u stands from place `from` on. An empty body is one too, so its items are counted: `first_of` and `place_of` answer where there is none.
 #[tactic(auto, using(crate::proofs::UserLaws::at_laws))]
 pub(crate) fn part_at(t: u8, from: usize, u: &[u8]) -> Option<Part>
     requires { Fits w64 (from + length u.now) }

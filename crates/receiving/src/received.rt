@@ -1,4 +1,5 @@
 // The event that bytes bring, and what its action does.
+// That the output has ten bytes stands in three clauses: a type that said so would hold its borrow, and `receive` would take it apart again.
 ghost use Rattle.std.specs.Prelude.{◌≡◌, ◌≤◌, length};
 ghost use Rattle.numbers.specs.Lengths.{TEN};
 ghost use Rattle.framing.specs.Framing.{Brought.pdu as whole};

@@ -1,4 +1,5 @@
 // The user information, one 50H: measured, and written.
+// That the names fit (`UserFit`) stands in three clauses: `User` is the host's and takes any, and a second struct of its five fields would say no more.
 ghost use Rattle.std.specs.Prelude.{◌≡◌, ◌&&◌, eqb, ◌+◌, ◌≤◌, length};
 ghost use Rattle.numbers.specs.Lengths.{LONGEST};
 ghost use Rattle.octets.specs.Private.Put.{Put};
