@@ -34,7 +34,7 @@ module _ (l : List ℕ) (ts : List (List ℕ)) (b : Bool) (e : length l % 16 ≡
   list_taken g = list_is ∙ g
 
 -- ---- which is the first: the library's place is ours
-position_first : {A : Type 0} (p : A → Bool) (xs : List A) → position_or_len p xs ≡ first_place p xs
+pub position_first : {A : Type 0} (p : A → Bool) (xs : List A) → position_or_len p xs ≡ first_place p xs
 position_first p [] = refl
 position_first p (x ∷ xs) = go (p x) (position_first p xs)
   where

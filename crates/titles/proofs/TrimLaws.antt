@@ -1,15 +1,29 @@
--- Laws of trimming from the end.
+-- Laws of trimming.
 -- Assumes nothing.
 use Prim.Native.Nat.{ℕ, ◌≤◌, ◌<◌, ◌-◌}
 use mathlib.Core.Path.{◌≡◌, refl, sym, ◌∙◌, ap}
 use mathlib.Core.List.{List, [], ◌∷◌, ◌++◌, reverse-append, reverse-cons, reverse-reverse}
-use lib.ListN.{length, take, get_or}
+use lib.ListN.{length, take, drop, get_or}
 use lib.Seq.{take-length}
 use native.Mathlib.Omega.{arith}
 use borrow.Author.Tests.{eq-eqb, ne_eqb}
-use Rattle.titles.specs.Title.{trim_end}
+use Rattle.titles.specs.Title.{trim_start, trim_end}
 use Rattle.laws.proofs.Places.{take_last}
 
+-- ---- from the front
+pub first_goes : (t : List ℕ) → 1 ≤ length t → get_or t 0 0 ≡ 0x20 → trim_start (drop 1 t) ≡ trim_start t
+first_goes [] h e = absurd (omega arith)
+first_goes (x ∷ t) h e = simp (eq-eqb _ _ e)
+
+pub first_stays : (t : List ℕ) → (get_or t 0 0 ≡ 0x20 → ⊥) → trim_start t ≡ t
+first_stays [] n = refl
+first_stays (x ∷ t) n = simp (ne_eqb _ _ n)
+
+pub none_first : (t : List ℕ) → length t < 1 → trim_start t ≡ t
+none_first [] h = refl
+none_first (x ∷ t) h = absurd (omega arith)
+
+-- ---- from the end
 space_goes : (l : List ℕ) (x : ℕ) → x ≡ 0x20 → trim_end (l ++ (x ∷ [])) ≡ trim_end l
 unfolding trim_end
 space_goes l x e = simp (reverse-append, eq-eqb _ _ e)
