@@ -1,3 +1,4 @@
 mod FreshLaws
 mod TitlesLaws
+pub mod TitleNumbers
 pub mod Agree

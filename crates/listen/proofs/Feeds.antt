@@ -1,16 +1,42 @@
 -- A turn of the loop: the next call is offered what the last one did not use, nothing lost, repeated or in another order; only where all is used is a piece read.
 -- Assumes nothing.
-use mathlib.Core.Path.{◌≡◌, sym, ap, ◌∙◌, subst}
+use mathlib.Core.Path.{◌≡◌, refl, sym, ap, ◌∙◌, subst}
 use mathlib.Core.List.{List, [], ◌∷◌, ◌++◌}
-use Prim.Native.Nat.{ℕ, ◌+◌, ◌<◌}
+use Prim.Native.Nat.{ℕ, zero, suc, ◌+◌, ◌-◌, ◌<◌, min}
 use native.Mathlib.Omega.{arith}
-use lib.ListN.{length, drop}
+use lib.ListN.{length, take, drop}
+use lib.Seq.{take-nil, drop-drop}
+use native.Mathlib.Nat.{sub-zero, suc-sub-suc}
 use Rattle.std.proofs.Common.{add-one}
 use Rattle.association.specs.declared.Answer.{Answer}
 use Rattle.association.specs.Calls.{Call, call, receive_of}
 use Rattle.demand_3.specs.Calls.{Lent, leaves}
+use Rattle.listen.specs.declared.window.Window.{Window}
+use Rattle.listen.specs.Window.{rest_of}
 use Rattle.listen.specs.Listen.{most, offering, Fed, Listened}
 use Rattle.listen.specs.Listen as listen
+
+-- ---- what is offered
+drop_take : (n m : ℕ) (l : List ℕ) → drop n (take m l) ≡ take (m - n) (drop n l)
+drop_take zero m l = rw sub-zero
+drop_take (suc n) zero l =
+    let e : 0 - suc n ≡ 0 = omega arith in
+    rw e
+drop_take (suc n) (suc m) [] = rw take-nil
+drop_take (suc n) (suc m) (x ∷ l) = rw suc-sub-suc (drop_take n m l)
+
+taken_alike : (m x y : ℕ) (l : List ℕ) → (0 < m → x ≡ y) → take m (drop x l) ≡ take m (drop y l)
+taken_alike zero x y l h = refl
+taken_alike (suc m) x y l h = ap (λ (j : ℕ). take (suc m) (drop j l)) (h (omega arith))
+
+-- WHAT A CALL DID NOT USE is offered to the next one: v is the window w behind the bytes used, but not behind its end. It is the clause of `Window::consume` too
+pub offers_rest : (w v : Window) (used : ℕ) → v.piece ≡ w.piece → v.end ≡ w.end → v.at ≡ w.at + min used (w.end - w.at) → rest_of v ≡ drop used (rest_of w)
+offers_rest w v used p e a =
+    let m = min used (w.end - w.at) in
+    let n : w.end - (w.at + m) ≡ w.end - w.at - used = omega arith in
+    rw (p, e, a)
+    (ap (λ (j : ℕ). take j (drop (w.at + m) w.piece)) n ∙ taken_alike (w.end - w.at - used) (w.at + m) (w.at + used) w.piece (λ h. omega arith)
+    ∙ ap (take (w.end - w.at - used)) (sym (drop-drop used w.at w.piece)) ∙ sym (drop_take used (w.end - w.at) (drop w.at w.piece)))
 
 -- Before a call, from s on: k calls were made, p is not used yet, and t is lent to the next one.
 pub record Going (s : Lent) (k : ℕ) (p : List ℕ) (t : Lent) : Type 0 where

@@ -1,5 +1,5 @@
 // The records of the contexts of an RQ or an AC, put into a lent sheet in PDU order: k is the type of a context, 20H or 21H.
-// Each loop here and in role_sheet.rt goes over the items of one type, and counts or puts what one gives: one that took this as a closure would have its contract to say for each, and be longer than they are.
+// Each loop here and in role_sheet.rt is a `for` over the items of one type that puts another record: one loop that took the record as a closure, with its contract, would be longer than they are.
 ghost use Rattle.std.specs.Prelude.{◌≡◌, ◌+◌, ◌*◌, ◌≤◌, length, drop};
 ghost use Rattle.numbers.specs.Lengths.{RECORD};
 ghost use Rattle.octets.specs.Private.Put.{Put};

@@ -30,7 +30,7 @@ use Rattle.association.specs.Machine.{doing, local_cell, local_action, plain_for
 use Rattle.association.specs.Calls.{call, unless, local_refusal, local_of}
 use Rattle.requests.specs.Private.Gates.{gate_refusal, done_locally, finish_of}
 
--- ---- `admit`
+-- ---- `gate`
 module _ (a : Assoc) (g : List ℕ) (action : ℕ) where
   steps : gate_refusal a g action ≡ cond (eqb (record_refusal a g a.gathered) 0) (cond (eqb action 0) BLANK-CELL 0) (record_refusal a g a.gathered)
   unfolding gate_refusal record_refusal

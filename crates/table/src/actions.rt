@@ -1,5 +1,5 @@
 // The numbers of the 28 actions, in the order of Tables 9-6 to 9-9 of PS3.8 2017e; 0 is a blank cell.
-// Numbers and no enum, as the events are: next_state, artim_after, shows and sends take any number, and their clauses speak of those that are no action's too.
+// Numbers and no enum, as the events are: next_state, artim_after, shows and sends, as cell, take any number, and their clauses speak of those that are no action's too.
 pub const NO_ACTION: u8 = 0;
 
 pub const AE_1: u8 = 1;

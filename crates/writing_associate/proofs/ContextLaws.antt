@@ -84,7 +84,7 @@ run_long : (run : List (List ℕ)) → 0 < length run → length (run_item run) 
 run_long run h =
     rw (run_is run h) (let n = names_long run in simp (length-append, head_long, item_length) (omega arith))
 
--- ---- `transfer_of`, `abstract_of`
+-- ---- `transfer_len`, `abstract_len`
 pub transfer_64 : (r : List ℕ) → length r ≡ 132 → length (transfer_of r) ≤ 64
 transfer_64 r h = rw (← transfer_first r h) (transfer_short r 0)
 

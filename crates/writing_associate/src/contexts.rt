@@ -1,5 +1,5 @@
 // The items of a sheet's contexts: measured, and written.
-// The loops that measure, and those that put, here and in role_items.rt, differ in the item alone: one that took it as a closure would have its contract to say for each, and be longer than they are.
+// The loops that measure and those that put, here and in role_items.rt, are three lines each: one that took the item as a closure, with its contract, would be longer than they are.
 ghost use Rattle.std.specs.Prelude.{◌≡◌, ◌+◌, ◌≤◌, ◌<◌, length};
 ghost use Rattle.numbers.specs.Lengths.{LONGEST};
 ghost use Rattle.octets.specs.Private.Put.{Put};

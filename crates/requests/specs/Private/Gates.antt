@@ -26,6 +26,6 @@ abbrev pub finish_of : Assoc → ℕ → Result ℕ Refusal → Answer
 finish_of a action (Ok sent) = done_locally a action sent
 finish_of a action (Err refusal) = refused_with (refusal_number refusal) a
 
--- what `admit` answers: the action, where nothing refuses the event, or the refusal
+-- an event with this action went through the gate, or was refused there
 abbrev pub Admitted : Assoc → List ℕ → ℕ → Result ℕ Refusal → Type 0
 Admitted a g action r = MatchResult r (λ n. (n ≡ action) × (gate_refusal a g action ≡ NOT-REFUSED)) (λ e. refusal_number e ≡ gate_refusal a g action)
