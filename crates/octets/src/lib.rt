@@ -1,7 +1,7 @@
 // Numbers in bytes, high byte first, bytes compared, and bytes put at a place of a lent buffer.
 #![tactic(auto)]
 
-ghost use Rattle.std.specs.Prelude.{◌≡◌, ℕ, ◌+◌, ◌<◌, get_or};
+ghost use Rattle.std.specs.Prelude.{◌≡◌, ℕ, ◌+◌, ◌<◌, length, get_or};
 ghost use Rattle.laws.specs.Lists.{same_bytes};
 ghost use Rattle.octets.specs.Octets.{be16, be32, two, four};
 ghost use Rattle.octets.specs.Put.{put as put_at, Placed};
@@ -13,11 +13,15 @@ pub fn byte_at(s: &[u8], at: usize) -> u8
     s.get(at).copied().unwrap_or(0)
 }
 
-// Whether two runs of bytes are the same.
+// Whether two runs of bytes are the same. The last byte comes first, since names share their beginning.
+#[tactic(auto, using(crate::proofs::OctetLaws::ends_differ))]
 pub fn same_bytes(a: &[u8], b: &[u8]) -> bool
     ensures { result ≡ same_bytes a.now b.now }
 {
-    a == b
+    match (a, b) {
+        ([.., x], [.., y]) if x != y => false,
+        _ => a == b,
+    }
 }
 
 // The N bytes from a place on; a byte past the end is 0.
@@ -61,6 +65,17 @@ pub fn four_of(n: u32) -> [u8; 4]
     u32::to_be_bytes(n)
 }
 
+// No copy_from_slice: it calls the C library's memmove, of which the archive asks nothing else.
+#[tactic(auto, using(std::proofs::lemmas::Grind::same_number_lists))]
+fn copy(to: &mut [u8], bytes: &[u8])
+    requires { length bytes.now ≡ length to.old }
+    ensures { to.new ≡ bytes.now }
+{
+    for (k, byte) in to.iter_mut().enumerate() {
+        *byte = bytes[k];
+    }
+}
+
 // Puts the bytes into the buffer from a place on and answers the place behind them; where they have no room nothing is written and the place is answered.
 #[tactic(auto, using(crate::proofs::PutLaws::room))]
 pub fn put(out: &mut [u8], at: usize, bytes: &[u8]) -> usize
@@ -73,6 +88,6 @@ pub fn put(out: &mut [u8], at: usize, bytes: &[u8]) -> usize
         return at;
     }
     let end = at + bytes.len();
-    out[at..end].copy_from_slice(bytes);
+    copy(&mut out[at..end], bytes);
     end
 }

@@ -2,6 +2,7 @@
 -- Assumes nothing.
 use Prim.Native.Nat.{ℕ, ◌+◌, ◌-◌, ◌<◌, ◌≤◌}
 use native.Mathlib.Omega.{arith}
+use native.Mathlib.Decide.{dec_lt}
 use mathlib.Core.Bool.{Bool, true, false, cond, and-false}
 use mathlib.Core.List.{List, [], ◌∷◌}
 use mathlib.Core.Path.{◌≡◌, refl, sym, ◌∙◌}
@@ -29,6 +30,14 @@ module _ (s : List ℕ) (at n : ℕ) (p : n ≡ be32 s at) where
   one_there m l =
       let e : at + (4 + n) ≡ at + 4 + n = omega arith in
       rw (← p, le-leb 2 n m, le-leb (at + 4 + n) (length s) (omega arith), ne_eqb (at + 4 + n) 0 (λ z. omega arith), e)
+
+  -- fewer than six bytes hold no item
+  pub no_head : length s < at + 6 → None ≡ item_end s at
+  no_head l = go (dec_lt n 2)
+    where
+      go : Dec (n < 2) → None ≡ item_end s at
+      go (yes m) = none_there m
+      go (no m) = no_room (omega arith)
 
 -- ---- what callers know of the answer
 pub item_there : (s : List ℕ) (at e : ℕ) → Some e ≡ item_end s at → (e ≡ pdv_end s at) × (e ≡ 0 → ⊥)

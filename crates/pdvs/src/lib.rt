@@ -7,17 +7,17 @@ ghost use Rattle.pdvs.specs.Data.{pdvs, pdvs_ok, item_end};
 ghost use Rattle.pdvs.specs.Private.Read.{pdv_read};
 
 // The place behind the PDV item at `at`: its length is at least 2 and it ends within s. None where none stands there.
-#[tactic(auto, using(crate::proofs::EndLaws::no_room, crate::proofs::EndLaws::none_there, crate::proofs::EndLaws::one_there))]
+#[tactic(auto, using(crate::proofs::EndLaws::no_head, crate::proofs::EndLaws::no_room, crate::proofs::EndLaws::none_there, crate::proofs::EndLaws::one_there))]
 pub fn pdv_end(s: &[u8], at: usize) -> Option<usize>
     ensures place { result ≡ item_end s.now at }
     ensures within { IfSome result (λ end. (at + 6 ≤ end) × (end ≤ length s.now)) }
 {
+    let room = s.len().checked_sub(6)?.checked_sub(at)?;
     let n = octets::be32_at(s, at) as usize;
-    let end = at.checked_add(4 + n)?;
-    if n < 2 || s.len() < end {
+    if n < 2 || room + 2 < n {
         return None;
     }
-    Some(end)
+    Some(at + 4 + n)
 }
 
 // A PDV: what an item holds behind its length.
