@@ -5,7 +5,7 @@ ghost use Rattle.id_set.specs.IdSet.{is_in, Empty, With};
 use std::marker::Model;
 
 // Contracts see its words.
-#[derive(Clone, Copy)]
+#[derive(Clone, Copy, Debug, PartialEq, Eq)]
 pub struct IdSet {
     words: [u64; 4],
 }
@@ -23,7 +23,26 @@ impl Model for IdSet {
     ghost inverse = { λ words. record { words = words } };
 }
 
+// The set that any four words are.
+impl From<[u64; 4]> for IdSet {
+    ghost use Rattle.std.specs.Prelude.{◌≡◌};
+
+    ghost from_gives = { λ words set. set ≡ words };
+
+    fn from(words: [u64; 4]) -> IdSet {
+        IdSet { words }
+    }
+}
+
 impl IdSet {
+    // Its four words.
+    pub fn words(&self) -> [u64; 4]
+        ensures { result ≡ self.now }
+    {
+        let IdSet { words } = *self;
+        words
+    }
+
     #[tactic(auto, using(crate::proofs::SetLaws::empty_is))]
     pub fn empty() -> IdSet
         ensures { Empty result }
