@@ -1,5 +1,5 @@
 -- Document 01, 'Refusal numbers'.
-use Rattle.std.specs.Prelude.{ℕ, Result, Ok, Err}
+use Rattle.std.specs.Prelude.{ℕ, List, Result, Ok, Err, codes}
 use Rattle.numbers.specs.declared.refusals.Refusal.{Refusal}
 use Rattle.numbers.specs.declared.refusals.Refusal.TheVariants.{BlankCell, ShortOutput, ShortGather, BadContents, LongPdu, BrokenRecord, NoSuchPdu}
 
@@ -48,3 +48,13 @@ refusal_number NoSuchPdu = NO-SUCH-PDU
 abbrev pub refusal_in : {T : Type 0} → Result T Refusal → ℕ
 refusal_in (Ok x) = NOT-REFUSED
 refusal_in (Err e) = refusal_number e
+
+-- and in words, as bytes
+abbrev pub refusal_words : Refusal → List ℕ
+refusal_words BlankCell = codes "no local event in this state"
+refusal_words ShortOutput = codes "the output or sheet is too short"
+refusal_words ShortGather = codes "the gather buffer is too short"
+refusal_words BadContents = codes "the contents may not be sent, or the number is past the last"
+refusal_words LongPdu = codes "the PDU is too long"
+refusal_words BrokenRecord = codes "the association's record is broken"
+refusal_words NoSuchPdu = codes "no PDU of the kind asked for"

@@ -20,6 +20,11 @@ use Rattle.titles.specs.Title.{titles_equal, trim}
 use Rattle.titles.specs.Own.{titles, list_ok, title_refusal, known, title_place, Checked, refusal, known_as, place_as}
 use Rattle.titles.specs.Meaning.{EqualAt, FirstAt, NoneEqual, Tells, TellsBy}
 use Rattle.titles.specs.Own.{Place, Place.At, Place.None, Place.Refused}
+use Rattle.titles.specs.Answer.{known_in, place_in, case_of}
+use Rattle.std.specs.Prelude.{Option, Option.Some, Option.None, Result, Ok, Err}
+use Rattle.numbers.specs.declared.refusals.Refusal.{Refusal}
+use Rattle.numbers.specs.Refusals.{refusal_number, refusal_in}
+use Rattle.numbers.proofs.NumberLaws.{refusal_some}
 
 -- the list is good, and the sought title has 16 bytes
 abbrev Taken : List ℕ → List ℕ → Type 0
@@ -163,3 +168,16 @@ module _ (own sought : List ℕ) (r k p : ℕ) (c : Checked own sought r k p) wh
       go true e w = of_case (At p) (c.refused ∙ (known_so own sought e).0) (c.yes ∙ rw e) refl
       go false e (inl w) = of_case None (c.refused ∙ w) (c.yes ∙ rw e) (c.place ∙ rw e)
       go false e (inr w) = of_case Refused (c.refused ∙ w) (c.yes ∙ rw e) (c.place ∙ rw e)
+
+-- ---- and so does the code's answer
+err_four : (own sought : List ℕ) (n : ℕ) → (n ≡ 0 → ⊥) → n ≡ title_refusal own sought → n ≡ 4
+err_four own sought n z e = go (refused_or_not own sought)
+  where
+    go : Taken own sought ⊎ (title_refusal own sought ≡ 4) → n ≡ 4
+    go (inl t) = absurd (z (e ∙ t))
+    go (inr t) = e ∙ t
+
+pub answer_tells : (own sought : List ℕ) (r : Result (Option ℕ) Refusal) → Checked own sought (refusal_in r) (known_in r) (place_in r) → Tells own sought (case_of r)
+answer_tells own sought (Ok (Option.Some k)) c = place_tells own sought (At k) c
+answer_tells own sought (Ok Option.None) c = place_tells own sought None c
+answer_tells own sought (Err e) c = place_tells own sought Refused (record { refused = sym (err_four own sought (refusal_number e) (refusal_some e) c.refused) ∙ c.refused; yes = c.yes; place = c.place })
