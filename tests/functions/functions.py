@@ -8,6 +8,7 @@ A method of a trait's impl has the trait's contract, and may have edits. A metho
 A wrong answer is an edit that the prover must refuse, crates/NAME/must-fail/FUNCTION.WHAT.edit, of the code (src/), of a contract (an
 `ensures` in src/) or of a definition (specs/), never of a proof: the last two are counted apart from code. A function that decides something
 has two, one of them at least an edit of its code; a thin one, that is one for C or of three lines or fewer, has one.
+A program has no public function; an edit of one is of the code of a function or method that has a contract, and named after it.
 """
 import glob
 import os
@@ -149,17 +150,30 @@ def without_code(crate):
         yield f"| {crate} | {subject.replace('_', ' ')} | {'; '.join(links)} |"
 
 
+def rows_of_program(crate):
+    """the rows of a program: its edits, by the function whose clause refuses them"""
+    text = "\n".join(read(source) for source in sorted(glob.glob(f"crates/{crate}/src/**/*.rt", recursive=True)))
+    promising = {name for name, header in re.findall(r"^ *(?:pub\(crate\) )?fn (\w+)((?:.*\n)*?) *\{\n", text, re.M) if "ensures" in header}
+    of = {}
+    for function, what, path, kind in edits(crate):
+        if function not in promising:
+            wrong.append(f"{path}: the program has no function {function} with a contract")
+        if kind != "code":
+            wrong.append(f"{path}: the edit of a program, and not of its code")
+        of.setdefault(function, []).append(link(what, path))
+    for function, links in of.items():
+        yield f"| {crate} | `{function}` | {'; '.join(links)} |"
+
+
 def main():
     functions, definitions, programs = [], [], []
     for crate in crates():
         sources = glob.glob(f"crates/{crate}/src/**/*.rt", recursive=True)
         if os.path.isfile(f"crates/{crate}/src/main.rt"):
-            programs.append(crate)
             for source in sources:
                 for found in re.findall(r"^pub (?:extern \"C\" )?fn (\w+)", read(source), re.M):
                     wrong.append(f"{source}: `{found}`: a program has no public function")
-            for _, _, path, _ in edits(crate):
-                wrong.append(f"{path}: the edit of a program, which has no public function")
+            programs += rows_of_program(crate)
         elif any(re.search(r"^(?:    )?(?:pub[^\n]* )?fn ", read(source), re.M) for source in sources):
             functions += rows_of(crate)
         else:
@@ -167,7 +181,9 @@ def main():
     table = "\n".join(
         ["| Crate | Function | Two answers agree | Wrong code, refused | Wrong definition or contract, refused |", "|---|---|---|---|---|", *functions, ""]
         + ["The crates of theorems, which have no code, have edits of their definitions, of a host or of an engine among them, after which a theorem does not hold:", ""]
-        + ["| Crate | Of | Wrong definition, refused |", "|---|---|---|", *definitions]
+        + ["| Crate | Of | Wrong definition, refused |", "|---|---|---|", *definitions, ""]
+        + ["The programs have no public function. These are of private ones, whose clauses their loop is proved by:", ""]
+        + ["| Program | Function | Wrong code, refused |", "|---|---|---|", *programs]
     )
     page = read(PAGE)
     if page.count(OPENS) != 1 or page.count(CLOSES) != 1:

@@ -38,9 +38,10 @@ impl Window {
         }
     }
 
-    // Reads the next piece where all of the last one is used. Which bytes a read brings no contract can say.
+    // Reads the next piece where all of the last one is used, and offers it from its first byte on. Which bytes a read brings no contract can say.
     pub(crate) fn fill(&mut self, input: &mut impl Read)
-        ensures { 0 < length (rest_of self.old) → rest_of self.new ≡ rest_of self.old }
+        ensures kept { 0 < length (rest_of self.old) → rest_of self.new ≡ rest_of self.old }
+        ensures starts { rest_of self.old ≡ [] → self.new.at ≡ 0 }
     {
         if self.at < self.end {
             return;
