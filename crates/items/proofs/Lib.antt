@@ -1,4 +1,5 @@
 pub mod WalkLaws
+pub mod ItemLaws
 pub mod StepLaws
 pub mod HoldLaws
 pub mod RuleLaws

@@ -5,7 +5,7 @@ use native.Mathlib.Omega.{arith}
 use mathlib.Core.Bool.{true, false, cond}
 use mathlib.Core.List.{List, [], ◌∷◌}
 use mathlib.Core.Path.{◌≡◌, refl, ◌∙◌}
-use lib.ListN.{length, take, drop, get_or, length-drop}
+use lib.ListN.{length, take, drop, get_or, length-drop, drop_of_length-le}
 use lib.Seq.{drop-drop, get_or-drop}
 use lib.Dec.{leb}
 use Rattle.laws.specs.Lists.{empty}
@@ -64,3 +64,6 @@ module _ (s : List ℕ) (at e : ℕ) (p : e ≡ item_end s at) where
   stop z l =
       let f : leb (4 + be16 s (at + 2)) (length s - at) ≡ false = simp (any_length (be16 s (at + 2))) at (part_not 0 s at (be16 s (at + 2)) e p z) in
       here s at l ∙ simp f
+
+pub over : (s : List ℕ) (at : ℕ) → length s ≤ at → walk (drop at s) ≡ done
+over s at h = rw (drop_of_length-le s h, walk_nil)

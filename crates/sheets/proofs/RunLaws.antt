@@ -11,7 +11,7 @@ use Rattle.std.proofs.lemmas.List.{drop_all}
 use native.Mathlib.Numerals.{add-one}
 use borrow.Author.Rules.{rules}
 use lib.Dec.{leb}
-use borrow.Author.Tests.{le-leb, lt-leb, leb-true, not-true, not-false}
+use borrow.Author.Tests.{le-leb, lt-leb, leb-true, leb-false, not-true, not-false}
 use Rattle.std.specs.List.{IsChunkByPrefix}
 use Rattle.std.specs.Simd.{first_chunks}
 use Rattle.laws.specs.Lists.{distinct}
@@ -85,6 +85,16 @@ module _ (s rest : List ℕ) (at : ℕ) (rs : List (List ℕ)) (e : rest ≡ dro
 pub no_run : (r : List ℕ) → goes_on r [] ≡ true → ⊥
 unfolding goes_on
 no_run r e = absurd (held false e)
+
+pub on_here : (s : List ℕ) (at : ℕ) → at + 132 ≤ length s → goes_on_at s at ≡ goes_on (record_at s at) (contexts_in (drop (at + 132) s))
+unfolding goes_on_at goes_on start
+on_here s at h = go (leb (at + 132 + 132) (length s)) refl
+  where
+    go : (b : Bool) → leb (at + 132 + 132) (length s) ≡ b → goes_on_at s at ≡ goes_on (record_at s at) (contexts_in (drop (at + 132) s))
+    go true q =
+        let l : at + 132 + 132 ≤ length s = leb-true _ _ q in
+        rw (contexts_here s (at + 132) l, id_here s at, id_here s (at + 132), ← abstract_here s at h, ← abstract_here s (at + 132) l) (simp q)
+    go false q = rw (contexts_none s (at + 132) (leb-false _ _ q)) (simp q)
 
 -- a record that goes on a run is there
 pub on_there : (s : List ℕ) (at : ℕ) → goes_on_at s at ≡ true → at + 132 + 132 ≤ length s
