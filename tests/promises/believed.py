@@ -4,8 +4,8 @@
     believed.py --write   writes the counts there anew
     believed.py --crates  prints them by crate
 
-A line counts unless it is blank, a comment or a `use`. A private definition is used by no definition that must be believed, by no contract of a public function,
-and docs/PROMISES.md cites it as no definition.
+A line counts unless it is blank, a comment or a `use`. A private definition is used by no definition that must be believed, by no contract of a public function or
+method, by no ghost member of a public type's impl, and docs/PROMISES.md cites it as no definition.
 """
 import glob
 import os
@@ -14,8 +14,10 @@ import sys
 
 PAGE = "docs/TRUST.md"
 OPENS, CLOSES = "<!-- counted: by tests/promises/believed.py -->", "<!-- end of counted -->"
-PUBLIC = re.compile(r"^pub (?:extern \"C\" )?fn (\w+)((?:.*\n)*?)\{\n", re.M)
-PRIVATE = re.compile(r"^(?:ghost )?use [^\s{]*\bPrivate\b[^\s{;]*(?:\{([^}]*)\}| as (\S+?))?;?$", re.M)  # the names that a `use` brings, or the module's own
+PUBLIC = re.compile(r"^(?: {4})?pub (?:const )?(?:extern \"C\" )?fn (\w+)((?:.*\n)*?)(?: {4})?\{\n", re.M)
+IMPL = re.compile(r"^impl(?:<[^>]*>)? .* for (\w+).*\{\n((?:(?!\}).*\n)*)\}\n", re.M)
+GHOST = re.compile(r"^    ghost (\w+) = ((?:.*\n)*?.*);$", re.M)
+PRIVATE = re.compile(r"^ *(?:ghost )?use [^\s{]*\bPrivate\b[^\s{;]*(?:\{([^}]*)\}| as (\S+?))?;?$", re.M)  # the names that a `use` brings, or the module's own
 
 
 def read(path):
@@ -44,6 +46,10 @@ def counts():
     return found
 
 
+def public_types(crate):
+    return {name for path in glob.glob(f"crates/{crate}/src/**/*.rt", recursive=True) for name in re.findall(r"^pub (?:struct|enum) (\w+)", read(path), re.M)}
+
+
 def wrong_uses():
     for path in sorted(glob.glob("crates/*/specs/**/*.antt", recursive=True)):
         if not private(path) and PRIVATE.search(read(path)):
@@ -51,9 +57,13 @@ def wrong_uses():
     for path in sorted(glob.glob("crates/*/src/**/*.rt", recursive=True)):
         text = read(path)
         names = {name.split(" as ")[-1].strip() for brought in PRIVATE.findall(text) for part in brought for name in part.split(",") if name.strip()}
-        for function, header in PUBLIC.findall(text):
-            for name in sorted(names & set(re.findall(r"[\w-]+", header))):
-                yield f"{path}: the contract of `{function}` cites the private definition {name}"
+        said = [(f"the contract of `{function}`", header) for function, header in PUBLIC.findall(text)]
+        for of, inside in IMPL.findall(text):
+            if of in public_types(path.split("/")[1]):
+                said += [(f"`{member}` of {of}", value) for member, value in GHOST.findall(inside)]
+        for what, words in said:
+            for name in sorted(names & set(re.findall(r"[\w-]+", words))):
+                yield f"{path}: {what} cites the private definition {name}"
     for cited in re.findall(r"\]\(([^)]*/specs/Private[^)]*)\)", read("docs/PROMISES.md")):
         yield f"docs/PROMISES.md cites {cited}"
 
