@@ -20,7 +20,7 @@
 
 /* The version. While it begins with 0 its second number grows with every change of a call, a name or what a record holds; where only the third
    grows, all answers are the same. */
-#define FEO_VERSION "0.8.2"
+#define FEO_VERSION "0.8.3"
 
 /* Room for any PDU that is received or sent. feo_receive asks it of its gather buffer. */
 #define FEO_BUFFER 16390
