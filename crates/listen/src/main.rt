@@ -61,9 +61,8 @@ impl Host {
     {
         let mut window = Window::new();
         for _call in 0..u64::MAX {
-            window.fill(input);
+            let ended = window.fill(input);
             let piece = window.rest();
-            let ended = piece.is_empty();
             let told = lent::receive_lent(&mut self.assoc, &mut self.gather, piece, &mut self.out);
             print_line(rt, told, self.assoc.state);
             if ended {

@@ -24,7 +24,7 @@ fn brought(input: &mut impl Read, piece: &mut [u8]) -> usize
 }
 
 impl Window {
-    ghost use Rattle.std.specs.Prelude.{◌≡◌, ◌<◌, [], drop};
+    ghost use Rattle.std.specs.Prelude.{◌≡◌, ◌<◌, nat_eq, [], drop};
     ghost use Rattle.listen.specs.Window.{rest_of};
 
     // Before the first read.
@@ -38,17 +38,19 @@ impl Window {
         }
     }
 
-    // Reads the next piece where all of the last one is used, and offers it from its first byte on. Which bytes a read brings no contract can say.
-    pub(crate) fn fill(&mut self, input: &mut impl Read)
-        ensures kept { 0 < length (rest_of self.old) → rest_of self.new ≡ rest_of self.old }
+    // Reads the next piece where all of the last one is used, and offers it from its first byte on; whether the input has ended. Which bytes a read brings no contract can say.
+    pub(crate) fn fill(&mut self, input: &mut impl Read) -> bool
+        ensures kept { 0 < length (rest_of self.old) → self.new ≡ self.old }
         ensures starts { rest_of self.old ≡ [] → self.new.at ≡ 0 }
+        ensures ends { result ≡ nat_eq (length (rest_of self.new)) 0 }
     {
         if self.at < self.end {
-            return;
+            return false;
         }
         let end = brought(input, &mut self.piece);
         self.at = 0;
         self.end = end;
+        end == 0
     }
 
     pub(crate) fn rest(&self) -> &[u8]
