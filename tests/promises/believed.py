@@ -5,7 +5,7 @@
     believed.py --crates  prints them by crate
 
 A line counts unless it is blank, a comment or a `use`. A private definition is used by no definition that must be believed, by no contract of a public function or
-method, by no ghost member of a public type's impl, and docs/PROMISES.md cites it as no definition.
+method, by no invariant and no ghost member of a public type or trait, and docs/PROMISES.md cites it as no definition.
 """
 import glob
 import os
@@ -14,9 +14,7 @@ import sys
 
 PAGE = "docs/TRUST.md"
 OPENS, CLOSES = "<!-- counted: by tests/promises/believed.py -->", "<!-- end of counted -->"
-PUBLIC = re.compile(r"^(?: {4})?pub (?:const )?(?:extern \"C\" )?fn (\w+)((?:.*\n)*?)(?: {4})?\{\n", re.M)
-IMPL = re.compile(r"^impl(?:<[^>]*>)? .* for (\w+).*\{\n((?:(?!\}).*\n)*)\}\n", re.M)
-GHOST = re.compile(r"^    ghost (\w+) = ((?:.*\n)*?.*);$", re.M)
+HEADER = re.compile(r"((?:.*\n)*?)^ *\{\n", re.M)
 PRIVATE = re.compile(r"^ *(?:ghost )?use [^\s{]*\bPrivate\b[^\s{;]*(?:\{([^}]*)\}| as (\S+?))?;?$", re.M)  # the names that a `use` brings, or the module's own
 
 
@@ -47,7 +45,42 @@ def counts():
 
 
 def public_types(crate):
-    return {name for path in glob.glob(f"crates/{crate}/src/**/*.rt", recursive=True) for name in re.findall(r"^pub (?:struct|enum) (\w+)", read(path), re.M)}
+    return {name for path in glob.glob(f"crates/{crate}/src/**/*.rt", recursive=True) for name in re.findall(r"^pub (?:struct|enum|trait) (\w+)", read(path), re.M)}
+
+
+def chunks(text, indent):
+    """the items of a file, or with an indent the members of a block, each from its first line to its last"""
+    lines = [line for line in text.split("\n") if not re.match(r"\s*(//|#|(?:pub )?(?:ghost )?use\b)", line)]
+    found = []
+    for line in lines:
+        opens = re.match(indent + r"[^\s})]", line)
+        if opens and not (found and re.match(indent + r"(where|ensures|requires|\{)", line)):
+            found.append("")
+        if found:
+            found[-1] += line + "\n"
+    return found
+
+
+def header(item):
+    """a function up to its body: its types and its clauses"""
+    opened = HEADER.match(item)
+    return opened.group(1) if opened else item
+
+
+def said(text, types):
+    """what a source says to whoever calls it: (of what, its words)"""
+    for item in chunks(text, ""):
+        named = re.match(r"(pub )?(?:\w+ )*?(?:fn|struct|enum|trait|type|const|static) (?!fn\b)(\w+)", item)
+        block = re.match(r"(?:unsafe )?impl\b(.*?)(?=\{|\bwhere\b|\n)", item)
+        if block:
+            words = re.findall(r"\w+", re.sub(r"<[^<>]*>", "", re.sub(r"<[^<>]*>", "", block.group(1))))
+            if words[-1] in types or not re.search(r"^(?:pub\(crate\) )?(?:struct|enum) " + words[-1] + r"\b", text, re.M):
+                yield f"the impl of {words[-1]}", item.split("{")[0]
+                for member in chunks(item.split("\n", 1)[1], "    "):
+                    if " for " in block.group(1) or not re.match(r"    (?:\w+ )*fn ", member) or member.startswith("    pub "):
+                        yield f"`{member.strip().split('(')[0].split('=')[0].strip()}` of {words[-1]}", header(member)
+        elif named and named.group(1):
+            yield f"`{named.group(2)}`", header(item) if " fn " in item.split("(")[0] else item
 
 
 def wrong_uses():
@@ -57,12 +90,8 @@ def wrong_uses():
     for path in sorted(glob.glob("crates/*/src/**/*.rt", recursive=True)):
         text = read(path)
         names = {name.split(" as ")[-1].strip() for brought in PRIVATE.findall(text) for part in brought for name in part.split(",") if name.strip()}
-        said = [(f"the contract of `{function}`", header) for function, header in PUBLIC.findall(text)]
-        for of, inside in IMPL.findall(text):
-            if of in public_types(path.split("/")[1]):
-                said += [(f"`{member}` of {of}", value) for member, value in GHOST.findall(inside)]
-        for what, words in said:
-            for name in sorted(names & set(re.findall(r"[\w-]+", words))):
+        for what, words in said(text, public_types(path.split("/")[1])):
+            for name in sorted(names & set(re.findall(r"[\w-]+", words))) + sorted(set(re.findall(r"[\w.]*\bspecs\.Private\b[\w.]*", words))):
                 yield f"{path}: {what} cites the private definition {name}"
     for cited in re.findall(r"\]\(([^)]*/specs/Private[^)]*)\)", read("docs/PROMISES.md")):
         yield f"docs/PROMISES.md cites {cited}"
